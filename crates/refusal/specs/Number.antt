@@ -1,0 +1,30 @@
+-- The number of each refusal, as the table of numbered answers gives it; 0 is a success.
+use Prim.Native.Nat.{ℕ}
+use Rattle.refusal.specs.declared.Refusal.{Refusal}
+use Rattle.refusal.specs.declared.Refusal.the-variants.{InputLength, ValueOver, RadiusOver, NumberOver, OutputLength, NoLine, OtherNumber, RowCount, NoBlock, ManyStarts, RegisterFull, RegisterShort}
+
+abbrev pub numberOf : Refusal → ℕ
+-- a line or ring is not 63 long, or text to be encoded is not 50 long
+numberOf InputLength = 1
+-- a character (a register's too) or field operand is over 63, or a data row over 127
+numberOf ValueOver = 2
+-- radius over 5
+numberOf RadiusOver = 3
+-- number over 4095
+numberOf NumberOver = 4
+-- output length differs from the one stated
+numberOf OutputLength = 5
+-- no line within the radius; for ring reading, an empty list
+numberOf NoLine = 6
+-- the line found has another number than the wanted one
+numberOf OtherNumber = 7
+-- block rows outside 2..64, or data rows outside 1..63
+numberOf RowCount = 8
+-- no proper block within one bit
+numberOf NoBlock = 9
+-- ring reading: two or more entries in the list
+numberOf ManyStarts = 10
+-- a step is asked of a register that holds 52 characters, or anything of one whose count is above 52
+numberOf RegisterFull = 11
+-- register holds fewer than 52
+numberOf RegisterShort = 12

@@ -1,0 +1,39 @@
+// The numbered refusals, by name: what is wrong, and the number that the paper gives it.
+ghost use mathlib.Core.Path.{_≡_};
+ghost use Rattle.refusal.specs.Number.{numberOf};
+
+// Why a call was refused.
+pub enum Refusal {
+    InputLength,
+    ValueOver,
+    RadiusOver,
+    NumberOver,
+    OutputLength,
+    NoLine,
+    OtherNumber,
+    RowCount,
+    NoBlock,
+    ManyStarts,
+    RegisterFull,
+    RegisterShort,
+}
+
+// The number of a refusal.
+pub fn number(r: Refusal) -> u8
+    ensures { λ n. ⌜ n ≡ numberOf r ⌝ }
+{
+    match r {
+        Refusal::InputLength => 1,
+        Refusal::ValueOver => 2,
+        Refusal::RadiusOver => 3,
+        Refusal::NumberOver => 4,
+        Refusal::OutputLength => 5,
+        Refusal::NoLine => 6,
+        Refusal::OtherNumber => 7,
+        Refusal::RowCount => 8,
+        Refusal::NoBlock => 9,
+        Refusal::ManyStarts => 10,
+        Refusal::RegisterFull => 11,
+        Refusal::RegisterShort => 12,
+    }
+}

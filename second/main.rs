@@ -1,0 +1,31 @@
+//! The second program: the same rules by other methods, in another language, with no code shared.
+//!
+//! It writes the stored files that the program crates are held to. Build and run it from the project's root:
+//!
+//!     rustc -O --edition 2021 -o /tmp/second second/main.rs && /tmp/second WHAT
+//!
+//! WHAT names a program crate: its files `stdin` and `stdout` are written anew. `git diff` then shows what differs.
+
+mod field;
+
+use std::fs;
+
+/// Writes what a program crate reads and what it has to write.
+fn store(name: &str, stdin: Option<&[u8]>, stdout: &[u8]) {
+    let folder = format!("crates/{name}");
+    if let Some(bytes) = stdin {
+        fs::write(format!("{folder}/stdin"), bytes).expect("run this from the project's root");
+    }
+    fs::write(format!("{folder}/stdout"), stdout).expect("run this from the project's root");
+}
+
+fn main() {
+    let what = std::env::args().nth(1).unwrap_or_default();
+    match what.as_str() {
+        "field_table" => store(&what, None, field::table().as_bytes()),
+        _ => {
+            eprintln!("second WHAT, from the project's root. WHAT: field_table");
+            std::process::exit(2);
+        }
+    }
+}

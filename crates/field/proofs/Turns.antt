@@ -1,0 +1,103 @@
+-- What the field's code does, a turn and a way out at a time, over plain variables.
+use mathlib.Core.Path.{_≡_, refl, sym, ap, ap₂, _∙_}
+use mathlib.Core.Logic.{_⊎_, inl, inr}
+use mathlib.Core.List.{List, [], _∷_}
+use Prim.Native.Nat.{ℕ, zero, suc, _+_, _-_, _*_, _/_, _%_, _<_, _≤_}
+use native.Mathlib.Nat.{mod-eq-of-lt}
+use native.Mathlib.Omega.{arith}
+use lib.Bits.{bitXor}
+use Rattle.numbers.proofs.Cases.{bit-cases}
+use Rattle.numbers.proofs.Xor.{xor-assoc}
+use Rattle.field.specs.Field.{sum, timesX, shifted, product, power, Quotient}
+use Rattle.field.specs.Inside.{inverse, Divided}
+use Rattle.field.specs.Promises.{Operates}
+use Rattle.field.proofs.Laws
+
+-- ---- the product by shift and add
+
+-- i of the six bits are added: what is left of them makes s the product
+pub record AddedTo (u v a b s i : ℕ) : Type 0 where
+  pub most : i ≤ 6
+  pub small : a < 64
+  pub rest : sum s (shifted (6 - i) a b) ≡ product u v
+
+pub added-none : (u v a : ℕ) → a ≡ u % 64 → AddedTo u v a v 0 0
+unfolding product
+added-none u v a e =
+    record { most = omega arith; small = omega arith; rest = Laws.zero-sum (shifted 6 a v) ∙ ap (λ (x : ℕ). shifted 6 x v) e }
+
+-- a bit times an element fits a byte
+pub bit-fits : (u v a b s i : ℕ) → AddedTo u v a b s i → b % 2 * a < 256
+bit-fits u v a b s i t = let h : a < 64 = t .small in bit-cases (λ (x : ℕ). x * a < 256) (omega arith) (omega arith) b
+
+one-bit : (s a b n : ℕ) → sum (bitXor s (b % 2 * a)) (shifted n (timesX a) (b / 2)) ≡ sum s (shifted (suc n) a b)
+unfolding sum shifted
+one-bit s a b n = xor-assoc s (b % 2 * a) (shifted n (timesX a) (b / 2))
+
+pub added-again : (u v a b s i a′ : ℕ) → i < 6 → AddedTo u v a b s i → a′ ≡ timesX a → AddedTo u v a′ (b / 2) (bitXor s (b % 2 * a)) (i + 1)
+added-again u v a b s i a′ h t e =
+    let n : ℕ = 6 - (i + 1) in
+    let d : 6 - i ≡ suc n = omega arith in
+    record {
+      most = omega arith;
+      small = rw e (Laws.timesX-lt a);
+      rest = ap (λ (x : ℕ). sum (bitXor s (b % 2 * a)) (shifted n x (b / 2))) e ∙ one-bit s a b n ∙ sym (ap (λ (m : ℕ). sum s (shifted m a b)) d) ∙ t .rest;
+    }
+
+pub added-all : (u v a b s i : ℕ) → 6 ≤ i → AddedTo u v a b s i → s ≡ product u v
+unfolding shifted
+added-all u v a b s i h t =
+    let e : 6 - i ≡ 0 = omega arith in
+    sym (Laws.sum-zero s) ∙ sym (ap (λ (n : ℕ). sum s (shifted n a b)) e) ∙ t .rest
+
+-- ---- the inverse, by its chain
+
+pub square-times : (u p q r : ℕ) → q ≡ product p p → r ≡ product u q → r ≡ product u (product p p)
+square-times u p q r e f = f ∙ ap (product u) e
+
+doubled-and-one : (u n p r : ℕ) → p ≡ power u n → r ≡ product u (product p p) → r ≡ power u (suc (n + n))
+unfolding power
+doubled-and-one u n p r e f = f ∙ ap (product u) (ap₂ product e e ∙ sym (Laws.power-add u n n))
+
+cubed : (u : ℕ) → product u (product u u) ≡ power u 3
+unfolding power
+cubed u = ap (product u) (sym (Laws.product-low-right u u) ∙ ap (product u) (sym (Laws.product-comm u 1 ∙ Laws.one-product-low u)))
+
+pub inverse-chain : (u p3 p7 p15 p31 r : ℕ) → p3 ≡ product u (product u u) → p7 ≡ product u (product p3 p3) → p15 ≡ product u (product p7 p7)
+    → p31 ≡ product u (product p15 p15) → r ≡ product p31 p31 → r ≡ inverse u
+unfolding inverse
+inverse-chain u p3 p7 p15 p31 r e3 e7 e15 e31 e =
+    e ∙ ap₂ product is31 is31 ∙ sym (Laws.power-add u 31 31)
+  where
+    is3 : p3 ≡ power u 3
+    is3 = e3 ∙ cubed u
+
+    is31 : p31 ≡ power u 31
+    is31 = doubled-and-one u 15 p15 p31 (doubled-and-one u 7 p7 p15 (doubled-and-one u 3 p3 p7 is3 e7) e15) e31
+
+pub divided-over : (u v i w : ℕ) → i ≡ inverse v → w ≡ product u i → Divided u v w
+divided-over u v i w e f = rw (f, e) (Laws.divided-by u v)
+
+-- ---- the ways out of an entry point
+
+module _ (Is : ℕ → Type 0) (u v : ℕ) where
+  pub first-over : 63 < u → Operates Is u v (2 ∷ 0 ∷ [])
+  unfolding Operates
+  first-over h = (inr (λ t. omega arith, refl), (refl, refl))
+
+  pub second-over : u ≤ 63 → 63 < v → Operates Is u v (2 ∷ 0 ∷ [])
+  unfolding Operates
+  second-over l h = (inl (l, inr (λ t. omega arith, refl)), (refl, refl))
+
+  pub both-elements : u ≤ 63 → v ≤ 63 → (w : ℕ) → Is w → Operates Is u v (0 ∷ w ∷ [])
+  unfolding Operates
+  both-elements l m w i = (inl (l, inl (m, refl)), record { value = w; alone = refl; is = i })
+
+pub zero-quotient : (u v : ℕ) → v ≡ 0 → Quotient u v 0
+zero-quotient u v e = record { element = omega arith; exact = λ d. absurd (d e); by-zero = λ z. refl }
+
+pub divided-quotient : (u v w : ℕ) → u ≤ 63 → v ≤ 63 → (v ≡ 0 → ⊥) → Divided u v w → Quotient u v w
+divided-quotient u v w hu hv d q =
+    let e : u % 64 ≡ u = mod-eq-of-lt (omega arith) in
+    let f : v % 64 ≡ v = mod-eq-of-lt (omega arith) in
+    record { element = q .element; exact = λ _. q .exact (λ z. d (sym f ∙ z)) ∙ e; by-zero = λ z. absurd (d z) }

@@ -379,3 +379,6 @@ pub divided-only : (u v w x : ℕ) → (v % 64 ≡ 0 → ⊥) → Divided u v w 
 divided-only u v w x d q h e =
     product-cancel-left (v % 64) x w (pos-of-not-zero (v % 64) d) (omega arith) h (q .element)
     (product-low v x ∙ e ∙ sym (q .exact d) ∙ sym (product-low v w))
+
+pub divided-is : (u v w : ℕ) → (v % 64 ≡ 0 → ⊥) → Divided u v w → w ≡ product u (inverse v)
+divided-is u v w d q = divided-only u v (product u (inverse v)) w d (divided-by u v) (q .element) (q .exact d)

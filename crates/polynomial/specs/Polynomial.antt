@@ -1,0 +1,53 @@
+-- Polynomials over the field, as lists of coefficients, the lowest first.
+use mathlib.Core.Path.{_≡_}
+use mathlib.Core.List.{List, [], _∷_}
+use Prim.Native.Nat.{ℕ, zero, suc, _<_}
+use lib.ListN.{getD}
+use Rattle.field.specs.Field.{sum, product}
+use Rattle.polynomial.specs.Sums.{moment}
+
+-- the value at x
+unfoldable pub polyAt : List ℕ → ℕ → ℕ
+polyAt [] x = 0
+polyAt (p ∷ ps) x = sum p (product x (polyAt ps x))
+
+-- every coefficient is an element
+abbrev pub Elements : List ℕ → Type 0
+Elements ps = (k : ℕ) → getD ps k 0 < 64
+
+-- the polynomial is 0 at each of these
+abbrev pub ZeroAt : List ℕ → List ℕ → Type 0
+ZeroAt ps [] = Unit {0}
+ZeroAt ps (x ∷ xs) = (polyAt ps x ≡ 0) × ZeroAt ps xs
+
+-- the sums S_j, S_(j + 1), .. combined with the coefficients: p_0 S_j + p_1 S_(j + 1) + ..
+unfoldable pub combined : List ℕ → ℕ → List ℕ → List ℕ → ℕ
+combined [] j vs xs = 0
+combined (p ∷ ps) j vs xs = sum (product p (moment j vs xs)) (combined ps (suc j) vs xs)
+
+-- each value times the polynomial at its place
+unfoldable pub scaled : List ℕ → List ℕ → List ℕ → List ℕ
+scaled ps [] xs = []
+scaled ps (v ∷ vs) [] = []
+scaled ps (v ∷ vs) (x ∷ xs) = product v (polyAt ps x) ∷ scaled ps vs xs
+
+-- the quotient by x + r, and a 0 after it: each coefficient is the value at r of what follows it
+unfoldable pub over : List ℕ → ℕ → List ℕ
+over [] r = []
+over (p ∷ ps) r = polyAt ps r ∷ over ps r
+
+-- c + (x + r) p
+unfoldable pub carried : ℕ → ℕ → List ℕ → List ℕ
+carried r c [] = c ∷ []
+carried r c (p ∷ ps) = sum c (product r p) ∷ carried r p ps
+
+-- the product with x + r
+unfoldable pub rootAdded : ℕ → List ℕ → List ℕ
+rootAdded r ps = carried r 0 ps
+
+-- the product of x + X over the places X of the values that are not 0
+unfoldable pub locator : List ℕ → List ℕ → List ℕ
+locator [] xs = 1 ∷ []
+locator (v ∷ vs) [] = 1 ∷ []
+locator (zero ∷ vs) (x ∷ xs) = locator vs xs
+locator (suc v ∷ vs) (x ∷ xs) = rootAdded x (locator vs xs)

@@ -46,7 +46,7 @@ one-log v m n p q =
 pub a-quotient : (u v : ℕ) → u < 64 → v < 64 → (w : ℕ) × Quotient u v w
 a-quotient u v hu hv =
     ⊎-elim (λ (e : v ≡ 0). (0, zero-quotient u v e))
-    (λ (d : v ≡ 0 → ⊥). (product u (inverse v), divided-quotient u v (product u (inverse v)) (omega arith) (omega arith) d (Laws.divided-by u v)))
+    (λ (d : v ≡ 0 → ⊥). (product u (inverse v), divided-quotient u v (product u (inverse v)) (record { first = omega arith; second = omega arith }) d (Laws.divided-by u v)))
     (same-or-not v 0)
 
 pub one-quotient : (u v w x : ℕ) → v < 64 → Quotient u v w → Quotient u v x → w ≡ x
@@ -71,7 +71,7 @@ unfolding Operates
 one-operation Is u v one r s p q =
     one-element r s
     (one-reply (operandTests u v) (OneValue Is) 1
-    (λ t f g a b. a .alone ∙ ap (λ (w : ℕ). w ∷ []) (one (t .1 .0) (a .value) (b .value) (a .is) (b .is)) ∙ sym (b .alone))
+    (λ t f g a b. a .alone ∙ ap (λ (w : ℕ). w ∷ []) (one (t .0 .second) (a .value) (b .value) (a .is) (b .is)) ∙ sym (b .alone))
     (elementNumbers r) (elementNumbers s) p q)
 
 pub one-sum : (u v : ℕ) (r s : Element) → Sums u v (elementNumbers r) → Sums u v (elementNumbers s) → r ≡ s

@@ -1,6 +1,7 @@
 -- What the field's code does, a turn and a way out at a time, over plain variables.
 use mathlib.Core.Path.{_≡_, refl, sym, ap, ap₂, _∙_}
 use mathlib.Core.Logic.{_⊎_, inl, inr}
+use mathlib.Core.Bool.{Bool, true, false}
 use mathlib.Core.List.{List, [], _∷_}
 use Prim.Native.Nat.{ℕ, zero, suc, _+_, _-_, _*_, _/_, _%_, _<_, _≤_}
 use native.Mathlib.Nat.{mod-eq-of-lt}
@@ -8,9 +9,11 @@ use native.Mathlib.Omega.{arith}
 use lib.Bits.{bitXor}
 use Rattle.numbers.proofs.Cases.{bit-cases}
 use Rattle.numbers.proofs.Xor.{xor-assoc}
+use Rattle.refusal.specs.Promise.{Tells}
+use Rattle.refusal.proofs.Laws.{tells-yes, tells-no}
 use Rattle.field.specs.Field.{sum, timesX, shifted, product, power, Quotient}
 use Rattle.field.specs.Inside.{inverse, Divided}
-use Rattle.field.specs.Promises.{Operates}
+use Rattle.field.specs.Promises.{Operands, Operates}
 use Rattle.field.proofs.Laws
 
 -- ---- the product by shift and add
@@ -78,26 +81,35 @@ inverse-chain u p3 p7 p15 p31 r e3 e7 e15 e31 e =
 pub divided-over : (u v i w : ℕ) → i ≡ inverse v → w ≡ product u i → Divided u v w
 divided-over u v i w e f = rw (f, e) (Laws.divided-by u v)
 
--- ---- the ways out of an entry point
+-- ---- the test of the operands, and the ways out of an entry point
 
-module _ (Is : ℕ → Type 0) (u v : ℕ) where
-  pub first-over : 63 < u → Operates Is u v (2 ∷ 0 ∷ [])
-  unfolding Operates
-  first-over h = (inr (λ t. omega arith, refl), (refl, refl))
+pub first-over : (u v : ℕ) → 63 < u → Tells (Operands u v) false
+first-over u v h = tells-no (λ t. omega arith)
 
-  pub second-over : u ≤ 63 → 63 < v → Operates Is u v (2 ∷ 0 ∷ [])
-  unfolding Operates
-  second-over l h = (inl (l, inr (λ t. omega arith, refl)), (refl, refl))
+pub second-over : (u v : ℕ) → 63 < v → Tells (Operands u v) false
+second-over u v h = tells-no (λ t. omega arith)
 
-  pub both-elements : u ≤ 63 → v ≤ 63 → (w : ℕ) → Is w → Operates Is u v (0 ∷ w ∷ [])
+pub none-over : (u v : ℕ) → u ≤ 63 → v ≤ 63 → Tells (Operands u v) true
+none-over u v hu hv = tells-yes (record { first = hu; second = hv })
+
+module _ (Is : ℕ → Type 0) (u v : ℕ) (b : Bool) (t : Tells (Operands u v) b) where
+  pub not-elements : b ≡ false → Operates Is u v (2 ∷ 0 ∷ [])
   unfolding Operates
-  both-elements l m w i = (inl (l, inl (m, refl)), record { value = w; alone = refl; is = i })
+  not-elements e = (inr (t .fails e, refl), (refl, refl))
+
+  pub both-elements : b ≡ true → (w : ℕ) → Is w → Operates Is u v (0 ∷ w ∷ [])
+  unfolding Operates
+  both-elements e w i = (inl (t .holds e, refl), record { value = w; alone = refl; is = i })
 
 pub zero-quotient : (u v : ℕ) → v ≡ 0 → Quotient u v 0
 zero-quotient u v e = record { element = omega arith; exact = λ d. absurd (d e); by-zero = λ z. refl }
 
-pub divided-quotient : (u v w : ℕ) → u ≤ 63 → v ≤ 63 → (v ≡ 0 → ⊥) → Divided u v w → Quotient u v w
-divided-quotient u v w hu hv d q =
+pub divided-quotient : (u v w : ℕ) → Operands u v → (v ≡ 0 → ⊥) → Divided u v w → Quotient u v w
+divided-quotient u v w o d q =
     let e : u % 64 ≡ u = mod-eq-of-lt (omega arith) in
     let f : v % 64 ≡ v = mod-eq-of-lt (omega arith) in
     record { element = q .element; exact = λ _. q .exact (λ z. d (sym f ∙ z)) ∙ e; by-zero = λ z. absurd (d z) }
+
+-- as the code has it: the test has passed, and v is not 0
+pub nonzero-quotient : (u v w : ℕ) (b : Bool) → Tells (Operands u v) b → b ≡ true → (v ≡ 0 → ⊥) → Divided u v w → Quotient u v w
+nonzero-quotient u v w b t e d q = divided-quotient u v w (t .holds e) d q

@@ -14,8 +14,13 @@ abbrev pub elementNumbers : Element → List ℕ
 elementNumbers (Value v) = 0 ∷ v ∷ []
 elementNumbers (Refused r) = numberOf r ∷ 0 ∷ []
 
+-- no operand is over 63
+pub record Operands (u v : ℕ) : Type 0 where
+  pub first : u ≤ 63
+  pub second : v ≤ 63
+
 abbrev pub operandTests : ℕ → ℕ → List Test
-operandTests u v = (u ≤ 63 else ValueOver) ∷ (v ≤ 63 else ValueOver) ∷ []
+operandTests u v = (Operands u v else ValueOver) ∷ []
 
 -- the one other field is a value that is as stated
 pub record OneValue (Is : ℕ → Type 0) (fields : List ℕ) : Type 0 where

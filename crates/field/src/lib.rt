@@ -1,7 +1,8 @@
 // The field of 64 elements: the entry points sum, product and quotient, and the inner operations that the crates above use.
 ghost use mathlib.Core.Path.{_≡_};
+ghost use Rattle.refusal.specs.Promise.{Tells};
 ghost use Rattle.field.specs.Field.{sum, timesX, product};
-ghost use Rattle.field.specs.Promises.{elementNumbers, Sums, Multiplies, Divides};
+ghost use Rattle.field.specs.Promises.{elementNumbers, Operands, Sums, Multiplies, Divides};
 ghost use Rattle.field.specs.Inside.{inverse, Divided};
 use refusal::Refusal;
 
@@ -10,14 +11,24 @@ pub enum Element {
     Refused(Refusal),
 }
 
+// Whether both operands are elements.
+fn elements(u: u8, v: u8) -> bool
+    ensures { λ r. ⌜ Tells (Operands u v) r ⌝ }
+{
+    if u > 63 {
+        return false;
+    }
+    if v > 63 {
+        return false;
+    }
+    true
+}
+
 // The sum of two operands.
 pub fn sum(u: u8, v: u8) -> Element
     ensures { λ r. ⌜ Sums u v (elementNumbers r) ⌝ }
 {
-    if u > 63 {
-        return Element::Refused(Refusal::ValueOver);
-    }
-    if v > 63 {
+    if !elements(u, v) {
         return Element::Refused(Refusal::ValueOver);
     }
     Element::Value(plus(u, v))
@@ -27,10 +38,7 @@ pub fn sum(u: u8, v: u8) -> Element
 pub fn product(u: u8, v: u8) -> Element
     ensures { λ r. ⌜ Multiplies u v (elementNumbers r) ⌝ }
 {
-    if u > 63 {
-        return Element::Refused(Refusal::ValueOver);
-    }
-    if v > 63 {
+    if !elements(u, v) {
         return Element::Refused(Refusal::ValueOver);
     }
     Element::Value(times(u, v))
@@ -40,10 +48,7 @@ pub fn product(u: u8, v: u8) -> Element
 pub fn quotient(u: u8, v: u8) -> Element
     ensures { λ r. ⌜ Divides u v (elementNumbers r) ⌝ }
 {
-    if u > 63 {
-        return Element::Refused(Refusal::ValueOver);
-    }
-    if v > 63 {
+    if !elements(u, v) {
         return Element::Refused(Refusal::ValueOver);
     }
     if v == 0 {

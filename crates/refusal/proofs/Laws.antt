@@ -1,5 +1,6 @@
 -- A number fixes its refusal, and the tests fix the answer.
 use mathlib.Core.Path.{_≡_, refl, sym, _∙_, ap}
+use mathlib.Core.Bool.{Bool, true, false}
 use mathlib.Core.Logic.{_⊎_, inl, inr}
 use mathlib.Core.List.{List, [], _∷_}
 use Prim.Native.Nat.{ℕ, zero, suc}
@@ -8,7 +9,7 @@ use native.Mathlib.Omega.{arith}
 use Rattle.refusal.specs.declared.Refusal.{Refusal}
 use Rattle.refusal.specs.declared.Refusal.the-variants.{InputLength, ValueOver, RadiusOver, NumberOver, OutputLength, NoLine, OtherNumber, RowCount, NoBlock, ManyStarts, RegisterFull, RegisterShort}
 use Rattle.refusal.specs.Number.{numberOf}
-use Rattle.refusal.specs.Promise.{Test, Answer}
+use Rattle.refusal.specs.Promise.{Test, Answer, Tells}
 
 -- the refusals in the order of their numbers, from 1
 refusals : List Refusal
@@ -67,3 +68,17 @@ pub passed : (ts : List Test) (n : ℕ) → Answer ts n → n ≡ 0 → Passed t
 passed [] n a e = tt
 passed (t ∷ ts) n (inl a) e = (a .0, passed ts n (a .1) e)
 passed (t ∷ ts) n (inr a) e = absurd (refusal-positive (t .refusal) (sym (a .1) ∙ e))
+
+-- ---- what a test answers
+
+pub tells-yes : {P : Type 0} → P → Tells P true
+tells-yes p = record { holds = λ e. p; fails = λ e q. never e }
+  where
+    never : true ≡ false → ⊥
+    never e = let z : _≡_ {A = ℕ} 0 1 = cc in omega arith
+
+pub tells-no : {P : Type 0} → (P → ⊥) → Tells P false
+tells-no f = record { holds = λ e. absurd (never e); fails = λ e. f }
+  where
+    never : false ≡ true → ⊥
+    never e = let z : _≡_ {A = ℕ} 0 1 = cc in omega arith

@@ -1,5 +1,6 @@
 -- What every public call promises: its tests in the paper's order, each with its refusal, and what a success gives.
 use mathlib.Core.Path.{_≡_}
+use mathlib.Core.Bool.{Bool, true, false}
 use mathlib.Core.Logic.{_⊎_}
 use mathlib.Core.List.{List, [], _∷_}
 use Prim.Native.Nat.{ℕ, zero, suc}
@@ -34,3 +35,8 @@ Promise ts Stated k old (n ∷ fields) new = Answer ts n × Leaves Stated k old 
 -- the promise of a call that has no output
 abbrev pub Replies : List Test → (List ℕ → Type 0) → ℕ → List ℕ → Type 0
 Replies ts Stated k numbers = Promise {O = Unit} ts (λ fields _. Stated fields) k tt numbers tt
+
+-- what a test in the code answers: whether a fact holds
+pub record Tells (P : Type 0) (b : Bool) : Type 0 where
+  pub holds : b ≡ true → P
+  pub fails : b ≡ false → P → ⊥

@@ -1,19 +1,20 @@
 use borrow.Author.Needs.{needs}
-use Rattle.field.proofs.Turns.{first-over, second-over, both-elements}
+use borrow.Author.Tests.{not-true, not-false}
+use Rattle.field.proofs.Turns.{not-elements, both-elements}
 use Rattle.field.proofs.sum.Statement.{statement}
 use Rattle.field.proofs.sum.Tie as tie
 
-returns : tie.Need-returns
-returns c = search (first-over, needs)
+elements-requires : tie.Need-elements-requires
+elements-requires c κs = search needs
 
-returns-2 : tie.Need-returns-2
-returns-2 c = search (second-over, needs)
+returns : tie.Need-returns
+returns c = search (not-elements, not-true, needs)
 
 plus-requires : tie.Need-plus-requires
 plus-requires c κs = search needs
 
-returns-3 : tie.Need-returns-3
-returns-3 c = search (both-elements, needs)
+returns-2 : tie.Need-returns-2
+returns-2 c = search (both-elements, not-false, needs)
 
 pub sum-spec : {M : Type 1} → statement M
-sum-spec = tie.close (tie.spec returns returns-2 plus-requires returns-3)
+sum-spec = tie.close (tie.spec elements-requires returns plus-requires returns-2)

@@ -248,6 +248,10 @@ power-swap a m n = sym (power-mul a n m) ∙ ap (power a) (mul-comm n m) ∙ pow
 unfolding product shifted
 α-step a = product-comm α a ∙ simp (zero-mul, one-mul, zero-sum, sum-zero)
 
+pub power-next : (n : ℕ) → timesX (power α n) ≡ power α (suc n)
+unfolding power
+power-next n = ap timesX (sym (mod-eq-of-lt (power-lt α n))) ∙ sym (α-step (power α n))
+
 -- n steps from u
 walk : ℕ → ℕ → ℕ
 walk zero u = u

@@ -1,0 +1,2 @@
+-- The mender's laws, the turns of its code, and its theorems.
+pub mod Kernel

@@ -1,0 +1,96 @@
+-- What the mender's inner functions promise each other: rows of coefficients that combine the sums to 0, and the values at the places.
+use mathlib.Core.Path.{_≡_}
+use mathlib.Core.Bool.{Bool, true, false, cond}
+use mathlib.Core.Logic.{_⊎_}
+use mathlib.Core.List.{List, []}
+use Prim.Native.Nat.{ℕ, zero, suc, _+_, _-_, _<_, _≤_}
+use lib.Dec.{eqb}
+use lib.ListN.{length, getD}
+use Rattle.field.specs.Field.{sum, product, α, power, total}
+use Rattle.field.specs.Inside.{inverse}
+use Rattle.polynomial.specs.Polynomial.{polyAt, over}
+
+-- q_0 s_j + q_1 s_(j + 1) + .. + q_5 s_(j + 5): window j, combined with q
+unfoldable pub mixed : (ℕ → ℕ) → List ℕ → ℕ → ℕ
+mixed q s j = total 6 (λ k. product (q k) (getD s (j + k) 0))
+
+-- a list's entries, and 0 past its end
+abbrev pub coef : List ℕ → ℕ → ℕ
+coef p k = getD p k 0
+
+-- the entry of row i at k
+abbrev pub at : List (List ℕ) → ℕ → ℕ → ℕ
+at m i k = getD (getD m i []) k 0
+
+-- coefficients of a polynomial of degree at most e
+pub record Degree (e : ℕ) (q : ℕ → ℕ) : Type 0 where
+  pub none : (k : ℕ) → e < k → q k ≡ 0
+  pub small : (k : ℕ) → q k < 64
+
+-- the first n of six unit vectors
+pub record Units (n : ℕ) (m : List (List ℕ)) : Type 0 where
+  pub long : length m ≡ 6
+  pub wide : (i : ℕ) → i < 6 → length (getD m i []) ≡ 6
+  pub one : (i : ℕ) → i < n → at m i i ≡ 1
+  pub none : (i : ℕ) → n ≤ i → at m i i ≡ 0
+  pub other : (i k : ℕ) → (i ≡ k → ⊥) → at m i k ≡ 0
+
+-- the rows after n windows
+pub record Spanned (s : List ℕ) (e n : ℕ) (m : List (List ℕ)) : Type 0 where
+  pub long : length m ≡ 6
+  pub wide : (i : ℕ) → i < 6 → length (getD m i []) ≡ 6
+  -- each row combines these windows to 0
+  pub kernel : (i j : ℕ) → j < n → mixed (at m i) s j ≡ 0
+  -- each polynomial that does so is made of the rows, by its own coefficients
+  pub keeps : (q : ℕ → ℕ) → Degree e q → ((j : ℕ) → j < n → mixed q s j ≡ 0) → (k : ℕ) → total 6 (λ i. product (q i) (at m i k)) ≡ q k
+  -- row i has degree at most i, and at most e
+  pub low : (i k : ℕ) → i < k → at m i k ≡ 0
+  pub short : (i k : ℕ) → e < k → at m i k ≡ 0
+  -- a row is 0, or has 1 at its own degree
+  pub own : (i : ℕ) → ((k : ℕ) → at m i k ≡ 0) ⊎ (at m i i ≡ 1)
+  pub small : (i k : ℕ) → at m i k < 64
+
+-- the first row that window n does not combine to 0, or 6
+pub record Pivot (m : List (List ℕ)) (s : List ℕ) (n r : ℕ) : Type 0 where
+  pub small : r ≤ 6
+  pub before : (i : ℕ) → i < r → mixed (at m i) s n ≡ 0
+  pub here : r < 6 → 0 < mixed (at m r) s n
+
+-- a row and f times another
+pub record RowAdded (row : List ℕ) (f : ℕ) (other r : List ℕ) : Type 0 where
+  pub long : length r ≡ 6
+  pub entry : (k : ℕ) → getD r k 0 ≡ sum (getD row k 0) (product f (getD other k 0))
+
+-- each row and the multiple of row p with which it combines window n to 0
+pub record Stepped (s : List ℕ) (n p : ℕ) (m r : List (List ℕ)) : Type 0 where
+  pub long : length r ≡ 6
+  pub wide : (i : ℕ) → i < 6 → length (getD r i []) ≡ 6
+  pub pivot : 0 < mixed (at m p) s n
+  pub lowest : (i : ℕ) → i < p → mixed (at m i) s n ≡ 0
+  pub row : (i k : ℕ) → at r i k ≡ sum (at m i k) (product (product (mixed (at m i) s n) (inverse (mixed (at m p) s n))) (at m p k))
+
+-- the first row that is not 0, or 6, told by the entry at its own degree
+pub record First (m : List (List ℕ)) (r : ℕ) : Type 0 where
+  pub small : r ≤ 6
+  pub before : (i : ℕ) → i < r → at m i i ≡ 0
+  pub here : r < 6 → at m r r ≡ 0 → ⊥
+
+-- coefficients that are elements
+pub record Small (p : List ℕ) : Type 0 where
+  pub small : (k : ℕ) → getD p k 0 < 64
+
+-- the value at the place x, where p is a locator: 0 where x is no root of p, and where it is more than one
+unfoldable pub valueOf : List ℕ → List ℕ → ℕ → ℕ
+valueOf p s x =
+    cond (eqb (polyAt p x) 0)
+    (cond (eqb (polyAt (over p x) x) 0) 0 (product (product (mixed (coef (over p x)) s 0) (power x 5)) (inverse (polyAt (over p x) x))))
+    0
+
+-- the characters at the last n addresses are the values at their places
+pub record ValuedFrom (p s w : List ℕ) (n : ℕ) : Type 0 where
+  pub long : length w ≡ 63
+  pub entry : (l : ℕ) → l < n → getD w (62 - l) 0 ≡ valueOf p s (power α l)
+
+-- whether the first c sums agree
+pub record Agrees (s t : List ℕ) (c : ℕ) : Type 0 where
+  pub same : (k : ℕ) → k < c → getD s k 0 ≡ getD t k 0

@@ -1,0 +1,3 @@
+-- What mending promises, and what its inner functions promise each other.
+pub mod Mender
+pub mod Inside

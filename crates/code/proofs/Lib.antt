@@ -1,1 +1,5 @@
 -- The laws of words.
+pub mod Words
+pub mod Distances
+pub mod Sums
+pub mod Lines

@@ -7,9 +7,10 @@ use native.Mathlib.Omega.{arith}
 use lib.ListN.{length, getD}
 use Rattle.field.specs.Field.{sum, product, α, power, total}
 use Rattle.field.proofs.Laws
-use Rattle.field.proofs.Totals.{total-same, total-sum, total-front, total-scaled, total-lt}
+use Rattle.field.proofs.Totals.{total-same, total-sum, total-front, total-lt}
 use Rattle.polynomial.specs.Sums.{moment, Fresh, Places, Values}
 use Rattle.code.specs.Word.{Characters, powerSum, added}
+use Rattle.code.specs.Inside.{wordAt}
 use Rattle.code.proofs.Words.{added-get}
 
 -- ---- the places of n characters: the powers of α that fall to 1
@@ -55,9 +56,9 @@ values-63 w l h = subst (λ (n : ℕ). Values w (places n)) l (values w h)
 
 -- ---- the sum over addresses
 
--- exponents of α count modulo 63, so S_j is the sum of c_a · x^(62 - a) at x = α^j
-pub powerSum-at : (j : ℕ) (w : List ℕ) → powerSum j w ≡ total 63 (λ a. product (getD w a 0) (power (power α j) (62 - a)))
-unfolding powerSum
+-- exponents of α count modulo 63, so S_j is the value at α^j
+pub powerSum-at : (j : ℕ) (w : List ℕ) → powerSum j w ≡ wordAt w (power α j)
+unfolding powerSum wordAt
 powerSum-at j w =
     total-same 63 (λ a. product (getD w a 0) (power α (j * (62 - a) % 63))) (λ a. product (getD w a 0) (power (power α j) (62 - a)))
     (λ a h.
@@ -71,8 +72,7 @@ powerSum-lt j w = total-lt 63 (λ a. product (getD w a 0) (power α (j * (62 - a
 -- j counts modulo 63
 pub powerSum-mod : (j : ℕ) (w : List ℕ) → powerSum (j % 63) w ≡ powerSum j w
 powerSum-mod j w =
-    powerSum-at (j % 63) w ∙ ap (λ (x : ℕ). total 63 (λ a. product (getD w a 0) (power x (62 - a)))) (Laws.power-mod j)
-    ∙ sym (powerSum-at j w)
+    powerSum-at (j % 63) w ∙ ap (wordAt w) (Laws.power-mod j) ∙ sym (powerSum-at j w)
 
 -- words with the same characters have the same sums
 pub powerSum-same : (j : ℕ) (u v : List ℕ) → ((a : ℕ) → a < 63 → getD u a 0 ≡ getD v a 0) → powerSum j u ≡ powerSum j v
@@ -107,6 +107,7 @@ moment-total j (v ∷ vs) (x ∷ xs) h =
     ∙ sym (total-front (length vs) (λ a. product (getD (v ∷ vs) a 0) (power (getD (x ∷ xs) a 0) j)))
 
 pub powerSum-moment : (j : ℕ) (w : List ℕ) → length w ≡ 63 → powerSum j w ≡ moment j w (places 63)
+unfolding wordAt
 powerSum-moment j w h =
     powerSum-at j w
     ∙ total-same 63 (λ a. product (getD w a 0) (power (power α j) (62 - a))) (λ a. product (getD w a 0) (power (getD (places 63) a 0) j))
@@ -134,32 +135,7 @@ value-total x (c ∷ cs) =
     less-one n = omega arith
 
 pub powerSum-value : (j : ℕ) (w : List ℕ) → length w ≡ 63 → powerSum j w ≡ valueAt (power α j) w
+unfolding wordAt
 powerSum-value j w h =
     powerSum-at j w
     ∙ sym (subst (λ (n : ℕ). valueAt (power α j) w ≡ total n (λ a. product (getD w a 0) (power (power α j) (n - 1 - a)))) h (value-total (power α j) w))
-
--- ---- by Horner's rule, over the first n characters
-
-unfoldable pub horner : ℕ → List ℕ → ℕ → ℕ
-horner x w zero = 0
-horner x w (suc n) = sum (product (horner x w n) x) (getD w n 0 % 64)
-
-horner-total : (x : ℕ) (w : List ℕ) (n : ℕ) → horner x w n ≡ total n (λ a. product (getD w a 0) (power x (n - 1 - a)))
-unfolding horner total power
-horner-total x w zero = refl
-horner-total x w (suc n) =
-    ap₂ sum
-    (Laws.product-comm (horner x w n) x ∙ ap (product x) (horner-total x w n)
-    ∙ sym (total-scaled n x (λ a. product (getD w a 0) (power x (n - 1 - a))))
-    ∙ total-same n (λ a. product x (product (getD w a 0) (power x (n - 1 - a)))) (λ a. product (getD w a 0) (power x (suc n - 1 - a)))
-    (λ a h. Laws.product-left-comm x (getD w a 0) (power x (n - 1 - a)) ∙ ap (λ (m : ℕ). product (getD w a 0) (power x m)) (higher n a h)))
-    (sym (ap (λ (m : ℕ). product (getD w n 0) (power x m)) (last n) ∙ Laws.product-comm (getD w n 0) 1 ∙ Laws.one-product-low (getD w n 0)))
-  where
-    higher : (n a : ℕ) → a < n → suc (n - 1 - a) ≡ suc n - 1 - a
-    higher n a h = omega arith
-
-    last : (n : ℕ) → suc n - 1 - n ≡ 0
-    last n = omega arith
-
-pub powerSum-horner : (j : ℕ) (w : List ℕ) → horner (power α j) w 63 ≡ powerSum j w
-powerSum-horner j w = horner-total (power α j) w 63 ∙ sym (powerSum-at j w)

@@ -1,15 +1,16 @@
--- Two words added, character by character.
+-- Words by their characters: listed by a rule, and two words added.
 use mathlib.Core.Path.{_≡_, refl, sym, ap, ap₂, _∙_}
 use mathlib.Core.Logic.{⊎-elim}
 use mathlib.Core.List.{List, [], _∷_}
-use Prim.Native.Nat.{ℕ, zero, suc, _<_, _≤_}
+use Prim.Native.Nat.{ℕ, zero, suc, _+_, _<_, _≤_}
+use native.Mathlib.Nat.{add-zero, zero-add, add-suc, suc-add, not-suc-le-zero, le-of-suc-le-suc}
 use native.Mathlib.Omega.{arith}
 use lib.ListN.{length, getD, List·getD-eq-default}
 use Rattle.numbers.proofs.Cases.{le-or-lt}
 use Rattle.field.specs.Field.{sum}
 use Rattle.field.proofs.Laws
 use Rattle.polynomial.specs.Sums.{Zeros}
-use Rattle.code.specs.Word.{Characters, added}
+use Rattle.code.specs.Word.{Characters, added, listed}
 
 pub cons : {c d : ℕ} {cs ds : List ℕ} → c ≡ d → cs ≡ ds → c ∷ cs ≡ d ∷ ds
 cons p q = ap₂ (λ (c : ℕ) (cs : List ℕ). c ∷ cs) p q
@@ -18,6 +19,24 @@ cons p q = ap₂ (λ (c : ℕ) (cs : List ℕ). c ∷ cs) p q
 pub characters-below : (w : List ℕ) (n : ℕ) → length w ≤ n → ((a : ℕ) → a < n → getD w a 0 < 64) → Characters w
 characters-below w n l h a =
     ⊎-elim (λ (b : n ≤ a). let e : getD w a 0 ≡ 0 = List·getD-eq-default w 0 (omega arith) in omega arith) (λ (b : a < n). h a b) (le-or-lt n a)
+
+-- ---- characters listed by a rule
+
+pub listed-long : (f : ℕ → ℕ) (b n : ℕ) → length (listed f b n) ≡ n
+unfolding listed
+listed-long f b zero = refl
+listed-long f b (suc n) = ap suc (listed-long f (suc b) n)
+
+listed-from : (f : ℕ → ℕ) (b n a : ℕ) → a < n → getD (listed f b n) a 0 ≡ f (b + a)
+unfolding listed
+listed-from f b zero a h = absurd (not-suc-le-zero h)
+listed-from f b (suc n) zero h = ap f (sym (add-zero b))
+listed-from f b (suc n) (suc a) h = listed-from f (suc b) n a (le-of-suc-le-suc h) ∙ ap f (suc-add b a ∙ sym (add-suc b a))
+
+pub listed-get : (f : ℕ → ℕ) (n a : ℕ) → a < n → getD (listed f 0 n) a 0 ≡ f a
+listed-get f n a h = listed-from f 0 n a h ∙ ap f (zero-add a)
+
+-- ---- two words added
 
 pub length-added : (u v : List ℕ) → length u ≡ length v → length (added u v) ≡ length u
 unfolding added

@@ -1,1 +1,97 @@
 // Words of 63 characters: their power sums, and the test for a line.
+ghost use mathlib.Core.Path.{_≡_};
+ghost use lib.ListN.{getD};
+ghost use Rattle.code.specs.Word.{Characters, marks};
+ghost use Rattle.code.specs.Promises.{Tells, TellsLine};
+ghost use Rattle.code.specs.Inside.{PowerSums, wordAt};
+
+const ALPHA: u8 = 2;
+
+// The power -5 of α, which is its power 58.
+const LOWEST_POWER: u8 = 63;
+
+// Whether characters, of any length, are a line.
+pub fn is_line(word: &[u8]) -> bool
+    ensures { λ r. ⌜ TellsLine (now (word .entry)) r ⌝ }
+{
+    if word.len() != 63 {
+        return false;
+    }
+    if !in_range(word) {
+        return false;
+    }
+    same(power_sums(word), mark_sums())
+}
+
+// Whether each character is at most 63.
+pub fn in_range(word: &[u8]) -> bool
+    ensures { λ r. ⌜ Tells (Characters (now (word .entry))) r ⌝ }
+{
+    let mut a = 0;
+    while a < word.len() {
+        if word[a] > 63 {
+            return false;
+        }
+        a += 1;
+    }
+    true
+}
+
+// The eleven power sums, S_-5 first, of the first 63 characters. What the word lacks of them counts as 0, and of each the low six bits count.
+pub fn power_sums(word: &[u8]) -> [u8; 11]
+    ensures { λ r. ⌜ PowerSums (now (word .entry)) r ⌝ }
+{
+    let mut sums = [0u8; 11];
+    let mut x = LOWEST_POWER;
+    let mut k = 0;
+    while k < 11 {
+        sums[k] = word_at(word, x);
+        x = field::times(ALPHA, x);
+        k += 1;
+    }
+    sums
+}
+
+// The eleven power sums of the marks.
+pub fn mark_sums() -> [u8; 11]
+    ensures { λ r. ⌜ PowerSums marks r ⌝ }
+{
+    [43, 6, 3, 25, 3, 41, 25, 5, 27, 61, 52]
+}
+
+// The value at x of the first 63 characters as a polynomial, by Horner's rule.
+fn word_at(word: &[u8], x: u8) -> u8
+    ensures { λ r. ⌜ r ≡ wordAt (now (word .entry)) x ⌝ }
+{
+    let mut value: u8 = 0;
+    let mut a: usize = 0;
+    while a < 63 {
+        value = field::plus(field::times(value, x), character(word, a) % 64);
+        a += 1;
+    }
+    value
+}
+
+// The character at an address, 0 past the end.
+fn character(word: &[u8], a: usize) -> u8
+    ensures { λ r. ⌜ r ≡ getD (now (word .entry)) a 0 ⌝ }
+{
+    if a < word.len() {
+        return word[a];
+    }
+    0
+}
+
+// Whether two lists of sums are the same.
+fn same(u: [u8; 11], v: [u8; 11]) -> bool
+    ensures { λ r. ⌜ Tells (u ≡ v) r ⌝ }
+{
+    let mut k = 0;
+    while k < 11 {
+        if u[k] != v[k] {
+            return false;
+        }
+        k += 1;
+    }
+    true
+}

@@ -1,2 +1,6 @@
 -- The mender's laws, the turns of its code, and its theorems.
-pub mod Kernel
+pub mod Windows
+pub mod Fitting
+pub mod Turns
+pub mod Finding
+pub mod Theorems

@@ -5,10 +5,11 @@ use mathlib.Core.Logic.{_⊎_}
 use mathlib.Core.List.{List, []}
 use Prim.Native.Nat.{ℕ, zero, suc, _+_, _-_, _<_, _≤_}
 use lib.Dec.{eqb}
-use lib.ListN.{length, getD}
+use lib.ListN.{length, getD, replicate}
 use Rattle.field.specs.Field.{sum, product, α, power, total}
 use Rattle.field.specs.Inside.{inverse}
 use Rattle.polynomial.specs.Polynomial.{polyAt, over}
+use Rattle.mender.specs.declared.Mended.{Mended}
 
 -- q_0 s_j + q_1 s_(j + 1) + .. + q_5 s_(j + 5): window j, combined with q
 unfoldable pub mixed : (ℕ → ℕ) → List ℕ → ℕ → ℕ
@@ -91,6 +92,12 @@ pub record ValuedFrom (p s w : List ℕ) (n : ℕ) : Type 0 where
   pub long : length w ≡ 63
   pub entry : (l : ℕ) → l < n → getD w (62 - l) 0 ≡ valueOf p s (power α l)
 
--- whether the first c sums agree
-pub record Agrees (s t : List ℕ) (c : ℕ) : Type 0 where
-  pub same : (k : ℕ) → k < c → getD s k 0 ≡ getD t k 0
+-- the first c sums agree
+abbrev pub Agree : List ℕ → List ℕ → ℕ → Type 0
+Agree s t c = (k : ℕ) → k < c → getD s k 0 ≡ getD t k 0
+
+-- no word was found
+pub record Nothing (m : Mended) : Type 0 where
+  pub not-found : m .found ≡ false
+  pub no-weight : m .weight ≡ 0
+  pub no-word : m .word ≡ replicate 63 0

@@ -1,4 +1,4 @@
--- Mending: the errors that have given power sums, and the word near a word that has given power sums.
+-- Mending: the errors that have given power sums, and the nearest word with given sums, or with all of them 0.
 use mathlib.Core.Path.{_≡_}
 use mathlib.Core.Bool.{Bool, true, false}
 use mathlib.Core.List.{List}
@@ -40,21 +40,25 @@ pub record Word (w : List ℕ) : Type 0 where
   pub long : length w ≡ 63
   pub characters : Characters w
 
--- v is a word within e of w, and its eleven power sums are s
-pub record Near (w s : List ℕ) (e : ℕ) (v : List ℕ) : Type 0 where
-  pub word : Word v
-  pub sums : (k : ℕ) → k < 11 → powerSum (58 + k) v ≡ getD s k 0
-  pub within : distance w v ≤ e
-
--- the promise of looking for it: that word, with its distance; or w is no word or there is none, and 0 and 63 zeros stand for it
-pub record Nears (w s : List ℕ) (e : ℕ) (m : Mended) : Type 0 where
+-- the promise of looking for a word with a property within e of w: that word, with its distance; or w is no word or there is none,
+-- and 0 and 63 zeros stand for it
+pub record Nearest (P : List ℕ → Type 0) (w : List ℕ) (e : ℕ) (m : Mended) : Type 0 where
   pub of-word : m .found ≡ true → Word w
-  pub near : m .found ≡ true → Near w s e (m .word)
+  pub is : m .found ≡ true → P (m .word)
   pub apart : m .found ≡ true → m .weight ≡ distance w (m .word)
-  pub none : m .found ≡ false → Word w → (v : List ℕ) → Near w s e v → ⊥
+  pub within : m .found ≡ true → m .weight ≤ e
+  pub none : m .found ≡ false → Word w → (v : List ℕ) → P v → distance w v ≤ e → ⊥
   pub no-weight : m .found ≡ false → m .weight ≡ 0
   pub no-word : m .found ≡ false → m .word ≡ replicate 63 0
 
--- five errors at most are told
-abbrev pub NearsWithin : List ℕ → List ℕ → ℕ → Mended → Type 0
-NearsWithin w s e m = Nears w s (min e 5) m
+-- a word whose eleven power sums are s
+pub record HasSums (s v : List ℕ) : Type 0 where
+  pub word : Word v
+  pub sums : (k : ℕ) → k < 11 → powerSum (58 + k) v ≡ getD s k 0
+
+-- the promise of looking for the word with these sums, and of looking for the clean word: within five at most
+abbrev pub NearestWith : List ℕ → List ℕ → ℕ → Mended → Type 0
+NearestWith s w e m = Nearest (HasSums s) w (min e 5) m
+
+abbrev pub NearestClean : List ℕ → ℕ → Mended → Type 0
+NearestClean w e m = Nearest Clean w (min e 5) m

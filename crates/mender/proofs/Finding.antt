@@ -1,0 +1,226 @@
+-- The word that is found is the one that fits, and where a test fails none does; from errors to the nearest word with given sums.
+use mathlib.Core.Path.{_≡_, refl, sym, ap, ap₂, _∙_, subst}
+use mathlib.Core.Bool.{Bool, true, false, cond}
+use mathlib.Core.Logic.{⊎-elim}
+use mathlib.Core.List.{List, [], _∷_}
+use Prim.Native.Nat.{ℕ, zero, suc, min, _+_, _-_, _/_, _<_, _≤_}
+use native.Mathlib.Nat.{le-trans, le-of-eq}
+use native.Mathlib.Omega.{arith}
+use lib.ListN.{getD, length, replicate}
+use lib.Seq.{ext-getD}
+use lib.Dec.{eqb}
+use Rattle.refusal.specs.Promise.{Tells}
+use Rattle.field.specs.Field.{sum, product, α, power}
+use Rattle.field.specs.Inside.{inverse}
+use Rattle.field.proofs.Laws
+use Rattle.polynomial.specs.Sums.{weight, Zeros}
+use Rattle.polynomial.specs.Polynomial.{polyAt, over}
+use Rattle.code.specs.Word.{Characters, powerSum, Clean, added, distance}
+use Rattle.code.specs.Inside.{PowerSums}
+use Rattle.code.proofs.Words.{characters-below, length-added, added-get, characters-added, added-comm, added-twice}
+use Rattle.code.proofs.Distances.{distance-weight, distance-added}
+use Rattle.code.proofs.Sums.{powerSum-added}
+use Rattle.mender.specs.declared.Mended.{Mended}
+use Rattle.mender.specs.Mender.{Fits, MendsTo, Mends, Word, Nearest, HasSums, NearestWith, NearestClean}
+use Rattle.mender.specs.Inside.{mixed, coef, at, Spanned, First, Small, valueOf, ValuedFrom, Agree, Nothing}
+use Rattle.mender.proofs.Fitting.{row-least, some-row, value-is}
+
+pub true-false : true ≡ false → ⊥
+true-false e = let z : _≡_ {A = ℕ} 0 1 = cc in omega arith
+
+-- ---- the values are characters
+
+value-small : (p s : List ℕ) (x : ℕ) → valueOf p s x < 64
+unfolding valueOf
+value-small p s x = pick (eqb (polyAt p x) 0) (eqb (polyAt (over p x) x) 0)
+  where
+    pick : (a b : Bool) → cond a (cond b 0 (product (product (mixed (coef (over p x)) s 0) (power x 5)) (inverse (polyAt (over p x) x)))) 0 < 64
+    pick true true = omega arith
+    pick true false = Laws.product-lt (product (mixed (coef (over p x)) s 0) (power x 5)) (inverse (polyAt (over p x) x))
+    pick false b = omega arith
+
+valued-at : (p s w : List ℕ) → ValuedFrom p s w 63 → (a : ℕ) → a < 63 → getD w a 0 ≡ valueOf p s (power α (62 - a))
+valued-at p s w v a h = ap (λ (b : ℕ). getD w b 0) (twice-from a h) ∙ v .entry (62 - a) (omega arith)
+  where
+    twice-from : (a : ℕ) → a < 63 → a ≡ 62 - (62 - a)
+    twice-from a h = omega arith
+
+valued-characters : (p s w : List ℕ) → ValuedFrom p s w 63 → Characters w
+valued-characters p s w v =
+    characters-below w 63 (le-of-eq (v .long))
+    (λ a h. subst (λ (t : ℕ). t < 64) (sym (valued-at p s w v a h)) (value-small p s (power α (62 - a))))
+
+pub row-small : (s : List ℕ) (e n : ℕ) (m : List (List ℕ)) (r : ℕ) → Spanned s e n m → Small (getD m r [])
+row-small s e n m r a = record { small = a .small r }
+
+-- ---- no row left: no word; a row left: the word that fits is the one that it gives
+
+module _ (s : List ℕ) (c e : ℕ) (m : List (List ℕ)) (r : ℕ) (h : c ≤ 11) (g : e ≤ c / 2) (a : Spanned s e (c - c / 2) m) (f : First m r) where
+  empty-row : (i k : ℕ) → i < r → at m i k ≡ 0
+  empty-row i k l = ⊎-elim (λ z. z k) (λ (o : at m i i ≡ 1). let z = f .before i l in absurd (omega arith)) (a .own i)
+
+  no-row : 6 ≤ r → (w : List ℕ) → Fits s c e w → ⊥
+  no-row l w t = some-row s c e (c - c / 2) w (omega arith) (omega arith) (omega arith) t m a (λ i k b. empty-row i k (omega arith))
+
+  module _ (w : List ℕ) (l : r < 6) (v : ValuedFrom (getD m r []) s w 63) where
+    own-one : at m r r ≡ 1
+    own-one = ⊎-elim (λ z. absurd (f .here l (z r))) (λ o. o) (a .own r)
+
+    only-word : (u : List ℕ) → Fits s c e u → w ≡ u
+    only-word u t =
+        ext-getD 0 w u (v .long ∙ sym (t .long))
+        (λ b k. valued-at (getD m r []) s w v b (omega (arith, v .long))
+        ∙ value-is s c e (c - c / 2) u (omega arith) (omega arith) (omega arith) t (getD m r []) r (row-least s e (c - c / 2) m r a l own-one empty-row) b (omega (arith, v .long)))
+
+-- ---- the ways out of find
+
+pub found-none : (s : List ℕ) (c e : ℕ) (m : Mended) → Nothing m → ((w : List ℕ) → Fits s c e w → ⊥) → MendsTo s c e m
+found-none s c e m n h =
+    record {
+      fits = λ t. absurd (true-false (sym t ∙ n .not-found));
+      weighs = λ t. absurd (true-false (sym t ∙ n .not-found));
+      none = λ t. h;
+      no-weight = λ t. n .no-weight;
+      no-word = λ t. n .no-word;
+    }
+
+module _ (s : List ℕ) (c e : ℕ) (m : List (List ℕ)) (r : ℕ) (out : Mended) (bounds : (c ≤ 11) × (e ≤ c / 2)) (a : Spanned s e (c - c / 2) m) (f : First m r) where
+  pub found-no-row : 6 ≤ r → Nothing out → MendsTo s c e out
+  found-no-row l n = found-none s c e out n (no-row s c e m r (bounds .0) (bounds .1) a f l)
+
+  module _ (l : r < 6) (w : List ℕ) (v : ValuedFrom (getD m r []) s w 63) (n : ℕ) (weighs : n ≡ weight w) where
+    pub found-heavy : e < n → Nothing out → MendsTo s c e out
+    found-heavy b o =
+        found-none s c e out o
+        (λ u t.
+        let z : n ≡ weight u = weighs ∙ ap weight (only-word s c e m r (bounds .0) (bounds .1) a f w l v u t) in
+        let y = t .light in
+        omega arith)
+
+    module _ (t : List ℕ) (sums : PowerSums w t) (b : Bool) (agrees : Tells (Agree s t c) b) where
+      pub found-other : b ≡ false → Nothing out → MendsTo s c e out
+      found-other q o =
+          found-none s c e out o
+          (λ u y.
+          agrees .fails q
+          (λ k i.
+          y .sums k i ∙ ap (powerSum (58 + k)) (sym (only-word s c e m r (bounds .0) (bounds .1) a f w l v u y))
+          ∙ sym (sums .sum-at k (let g = bounds .0 in omega arith))))
+
+      pub found-word : n ≤ e → b ≡ true → MendsTo s c e (record { found = true; weight = n; word = w })
+      found-word y q =
+          record {
+            fits = λ _. record {
+              long = v .long;
+              characters = valued-characters (getD m r []) s w v;
+              light = omega arith;
+              sums = λ k i. agrees .holds q k i ∙ sums .sum-at k (let g = bounds .0 in omega arith);
+            };
+            weighs = λ _. weighs;
+            none = λ z. absurd (true-false z);
+            no-weight = λ z. absurd (true-false z);
+            no-word = λ z. absurd (true-false z);
+          }
+
+-- ---- mend
+
+pub mended : (s : List ℕ) (c e x y : ℕ) (m : Mended) → x ≡ min c 11 → y ≡ min e (x / 2) → MendsTo s x y m → Mends s c e m
+mended s c e x y m ex ey t =
+    subst (λ (k : ℕ). MendsTo s (min c 11) (min e (k / 2)) m) ex
+    (subst (λ (k : ℕ). MendsTo s (min c 11) k m) ey (subst (λ (k : ℕ). MendsTo s k y m) ex t))
+
+pub mended-bounds : (c e x y : ℕ) → x ≡ min c 11 → y ≡ min e (x / 2) → (x ≤ 11) × (y ≤ x / 2)
+mended-bounds c e x y ex ey = (omega arith, omega arith)
+
+-- ---- the nearest word with given sums
+
+module _ (P : List ℕ → Type 0) (w : List ℕ) (e : ℕ) (m : Mended) (n : Nothing m) where
+  nearest-none : (Word w → (v : List ℕ) → P v → distance w v ≤ e → ⊥) → Nearest P w e m
+  nearest-none h =
+      record {
+        of-word = λ t. absurd (true-false (sym t ∙ n .not-found));
+        is = λ t. absurd (true-false (sym t ∙ n .not-found));
+        apart = λ t. absurd (true-false (sym t ∙ n .not-found));
+        within = λ t. absurd (true-false (sym t ∙ n .not-found));
+        none = λ t. h;
+        no-weight = λ t. n .no-weight;
+        no-word = λ t. n .no-word;
+      }
+
+  pub other-length : (length w ≡ 63 → ⊥) → Nearest P w e m
+  other-length d = nearest-none (λ y v p l. d (y .long))
+
+  pub out-of-range : (b : Bool) → Tells (Characters w) b → b ≡ false → Nearest P w e m
+  out-of-range b t q = nearest-none (λ y v p l. t .fails q (y .characters))
+
+-- of a word w with sums u, and sums s wanted: the errors have the sums of both together
+module _ (w u s d : List ℕ) (e : ℕ) (b : Bool) (long : length w ≡ 63) (range : Tells (Characters w) b) (in-range : b ≡ true) (us : PowerSums w u)
+    (ls : length s ≡ 11) (ed : d ≡ added u s) where
+  sum-is : (k : ℕ) → k < 11 → getD d k 0 ≡ sum (powerSum (58 + k) w) (getD s k 0)
+  sum-is k h = ap (λ (l : List ℕ). getD l k 0) ed ∙ added-get u s (us .long ∙ sym ls) k ∙ ap (λ (t : ℕ). sum t (getD s k 0)) (us .sum-at k h)
+
+  -- a word with the sums wanted is w with such errors added
+  to-fits : (v : List ℕ) → HasSums s v → distance w v ≤ e → Fits d 11 e (added w v)
+  to-fits v y l =
+      let same : length w ≡ length v = long ∙ sym (y .word .long) in
+      record {
+        long = length-added w v same ∙ long;
+        characters = characters-added w v (range .holds in-range) (y .word .characters);
+        light = le-trans (le-of-eq (sym (distance-weight w v))) l;
+        sums = λ k h. sum-is k h ∙ ap (sum (powerSum (58 + k) w)) (sym (y .sums k h)) ∙ sym (powerSum-added (58 + k) w v same);
+      }
+
+  -- and w with such errors added has them
+  to-sums : (x : List ℕ) → Fits d 11 e x → HasSums s (added w x)
+  to-sums x f =
+      let same : length w ≡ length x = long ∙ sym (f .long) in
+      record {
+        word = record { long = length-added w x same ∙ long; characters = characters-added w x (range .holds in-range) (f .characters) };
+        sums = λ k h.
+            powerSum-added (58 + k) w x same ∙ ap (sum (powerSum (58 + k) w)) (sym (f .sums k h) ∙ sum-is k h)
+            ∙ Laws.sum-undo (powerSum (58 + k) w) (getD s k 0);
+      }
+
+  pub none-near : (m o : Mended) → MendsTo d 11 e m → m .found ≡ false → Nothing o → Nearest (HasSums s) w e o
+  none-near m o f q n = nearest-none (HasSums s) w e o n (λ y v p l. f .none q (added w v) (to-fits v p l))
+
+  pub one-near : (m : Mended) (r : List ℕ) → MendsTo d 11 e m → m .found ≡ true → r ≡ added w (m .word)
+      → Nearest (HasSums s) w e (record { found = true; weight = m .weight; word = r })
+  one-near m r f q g =
+      let x : Fits d 11 e (m .word) = f .fits q in
+      record {
+        of-word = λ _. record { long = long; characters = range .holds in-range };
+        is = λ _. subst (HasSums s) (sym g) (to-sums (m .word) x);
+        apart = λ _. f .weighs q ∙ sym (ap (distance w) g ∙ distance-added w (m .word) (long ∙ sym (x .long)));
+        within = λ _. le-trans (le-of-eq (f .weighs q)) (x .light);
+        none = λ z. absurd (true-false z);
+        no-weight = λ z. absurd (true-false z);
+        no-word = λ z. absurd (true-false z);
+      }
+
+-- ---- one property for another that holds of the same words
+
+pub nearest-as : (P Q : List ℕ → Type 0) (w : List ℕ) (e : ℕ) (m : Mended) → ((v : List ℕ) → P v → Q v) → ((v : List ℕ) → Q v → P v)
+    → Nearest P w e m → Nearest Q w e m
+nearest-as P Q w e m to from n =
+    record {
+      of-word = n .of-word;
+      is = λ t. to (m .word) (n .is t);
+      apart = n .apart;
+      within = n .within;
+      none = λ t y v q l. n .none t y v (from v q) l;
+      no-weight = n .no-weight;
+      no-word = n .no-word;
+    }
+
+zeros-at : (n k : ℕ) → _≡_ {A = ℕ} (getD (replicate n 0) k 0) 0
+zeros-at zero k = refl
+zeros-at (suc n) zero = refl
+zeros-at (suc n) (suc k) = zeros-at n k
+
+-- the clean words are those whose sums are all 0
+pub nearest-clean : (w : List ℕ) (e : ℕ) (m : Mended) → Nearest (HasSums (replicate 11 0)) w e m → Nearest Clean w e m
+nearest-clean w e m n =
+    nearest-as (HasSums (replicate 11 0)) Clean w e m
+    (λ v y. record { long = y .word .long; characters = y .word .characters; sums = λ k h. y .sums k h ∙ zeros-at 11 k })
+    (λ v y. record { word = record { long = y .long; characters = y .characters }; sums = λ k h. y .sums k h ∙ sym (zeros-at 11 k) }) n

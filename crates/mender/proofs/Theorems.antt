@@ -1,0 +1,85 @@
+-- The mender's theorems: one word at most fits the sums, and any two answers that its promises allow are equal.
+use mathlib.Core.Path.{_≡_, refl, sym, ap, ap₂, _∙_}
+use mathlib.Core.Bool.{Bool, true, false}
+use mathlib.Core.List.{List}
+use Prim.Native.Nat.{ℕ, min, _+_, _/_, _<_, _≤_}
+use native.Mathlib.Nat.{le-trans, le-of-eq}
+use native.Mathlib.Omega.{arith}
+use lib.ListN.{length, getD}
+use Rattle.field.specs.Field.{sum}
+use Rattle.field.proofs.Laws
+use Rattle.polynomial.specs.Sums.{weight}
+use Rattle.polynomial.proofs.Theorems.{vanishing-sums}
+use Rattle.code.specs.Word.{powerSum, Clean, added, distance}
+use Rattle.code.proofs.Words.{length-added, characters-added, added-zeros}
+use Rattle.code.proofs.Distances.{weight-added, distance-comm, triangle, distance-weight}
+use Rattle.code.proofs.Sums.{places, places-good, values-63, powerSum-moment, powerSum-added}
+use Rattle.mender.specs.declared.Mended.{Mended}
+use Rattle.mender.specs.Mender.{Fits, MendsTo, Mends, Word, Nearest, HasSums, NearestWith, NearestClean}
+
+-- one word at most fits, where the errors are at most half the sums
+pub one-fits : (s : List ℕ) (c e : ℕ) (u v : List ℕ) → e + e ≤ c → Fits s c e u → Fits s c e v → u ≡ v
+one-fits s c e u v h f g =
+    let same : length u ≡ length v = f .long ∙ sym (g .long) in
+    let long : length (added u v) ≡ 63 = length-added u v same ∙ f .long in
+    added-zeros u v same
+    (vanishing-sums (places 63) (added u v) c 58 (places-good 63 (omega arith))
+    (values-63 (added u v) long (characters-added u v (f .characters) (g .characters)))
+    (let w = weight-added u v in let a = f .light in let b = g .light in omega arith)
+    (λ k l.
+    sym (powerSum-moment (58 + k) (added u v) long) ∙ powerSum-added (58 + k) u v same
+    ∙ ap₂ sum (sym (f .sums k l)) (sym (g .sums k l)) ∙ Laws.sum-self (getD s k 0)))
+
+-- the parts of an answer fix it
+one-mended : (m n : Mended) → m .found ≡ n .found → m .weight ≡ n .weight → m .word ≡ n .word → m ≡ n
+one-mended m n p q r =
+    ap (λ (b : Bool). whole b (m .weight) (m .word)) p ∙ ap₂ (λ (k : ℕ) (w : List ℕ). whole (n .found) k w) q r
+  where
+    whole : Bool → ℕ → List ℕ → Mended
+    whole b k w = record { found = b; weight = k; word = w }
+
+-- any two answers that mending allows are equal
+pub one-mend : (s : List ℕ) (c e : ℕ) (m n : Mended) → Mends s c e m → Mends s c e n → m ≡ n
+one-mend s c e m n p q = by (m .found) (n .found) refl refl
+  where
+    by : (a b : Bool) → m .found ≡ a → n .found ≡ b → m ≡ n
+    by true true x y =
+        let z : m .word ≡ n .word = one-fits s (min c 11) (min e (min c 11 / 2)) (m .word) (n .word) (omega arith) (p .fits x) (q .fits y) in
+        one-mended m n (x ∙ sym y) (p .weighs x ∙ ap weight z ∙ sym (q .weighs y)) z
+    by true false x y = absurd (q .none y (m .word) (p .fits x))
+    by false true x y = absurd (p .none x (n .word) (q .fits y))
+    by false false x y = one-mended m n (x ∙ sym y) (p .no-weight x ∙ sym (q .no-weight y)) (p .no-word x ∙ sym (q .no-word y))
+
+-- any two answers of looking for the nearest word are equal, where one word at most has the property within the distance
+pub one-nearest : (P : List ℕ → Type 0) (w : List ℕ) (e : ℕ) (m n : Mended)
+    → (Word w → (u v : List ℕ) → P u → P v → distance w u ≤ e → distance w v ≤ e → u ≡ v) → Nearest P w e m → Nearest P w e n → m ≡ n
+one-nearest P w e m n one p q = by (m .found) (n .found) refl refl
+  where
+    near : (m : Mended) → Nearest P w e m → m .found ≡ true → distance w (m .word) ≤ e
+    near m p x = le-trans (le-of-eq (sym (p .apart x))) (p .within x)
+
+    by : (a b : Bool) → m .found ≡ a → n .found ≡ b → m ≡ n
+    by true true x y =
+        let z : m .word ≡ n .word = one (p .of-word x) (m .word) (n .word) (p .is x) (q .is y) (near m p x) (near n q y) in
+        one-mended m n (x ∙ sym y) (p .apart x ∙ ap (distance w) z ∙ sym (q .apart y)) z
+    by true false x y = absurd (q .none y (p .of-word x) (m .word) (p .is x) (near m p x))
+    by false true x y = absurd (p .none x (q .of-word y) (n .word) (q .is y) (near n q y))
+    by false false x y = one-mended m n (x ∙ sym y) (p .no-weight x ∙ sym (q .no-weight y)) (p .no-word x ∙ sym (q .no-word y))
+
+-- two words with the same eleven sums, within five of a word, are one
+pub one-with-sums : (s w u v : List ℕ) → Word w → HasSums s u → HasSums s v → distance w u ≤ 5 → distance w v ≤ 5 → u ≡ v
+one-with-sums s w u v y f g a b =
+    let same : length u ≡ length v = f .word .long ∙ sym (g .word .long) in
+    let long : length (added u v) ≡ 63 = length-added u v same ∙ f .word .long in
+    let t : distance u v ≤ distance u w + distance w v = triangle u w v (f .word .long ∙ sym (y .long)) (g .word .long ∙ sym (y .long)) in
+    let x : distance u w ≤ 5 = le-trans (le-of-eq (distance-comm u w)) a in
+    let d : distance u v ≡ weight (added u v) = distance-weight u v in
+    added-zeros u v same
+    (vanishing-sums (places 63) (added u v) 11 58 (places-good 63 (omega arith))
+    (values-63 (added u v) long (characters-added u v (f .word .characters) (g .word .characters))) (omega arith)
+    (λ k l.
+    sym (powerSum-moment (58 + k) (added u v) long) ∙ powerSum-added (58 + k) u v same ∙ ap₂ sum (f .sums k l) (g .sums k l) ∙ Laws.sum-self (getD s k 0)))
+
+pub one-nearest-with : (s w : List ℕ) (e : ℕ) (m n : Mended) → NearestWith s w e m → NearestWith s w e n → m ≡ n
+one-nearest-with s w e m n =
+    one-nearest (HasSums s) w (min e 5) m n (λ y u v f g a b. one-with-sums s w u v y f g (omega arith) (omega arith))

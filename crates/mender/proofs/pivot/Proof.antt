@@ -1,0 +1,55 @@
+use borrow.Author.Needs.{needs}
+use Prim.Native.Nat.{_≤_, _-_}
+use borrow.Author.Count.{below-none}
+use Rattle.mender.proofs.Turns.{Quiet, quiet-more, pivot-here, pivot-none}
+use Rattle.mender.proofs.pivot.Statement.{statement}
+use Rattle.mender.proofs.pivot.Tie as tie
+
+abbrev Inv-loop : tie.InvT-loop
+Inv-loop s j m i₀ i = (i ≤ 6) × Quiet m s j i
+
+abbrev μ-loop : tie.MeasureT-loop
+μ-loop s j m i₀ i = 6 - i
+
+loop-holds : tie.Need-loop-holds Inv-loop μ-loop
+loop-holds c = search (below-none, needs)
+
+mul-row : tie.Need-mul-row Inv-loop μ-loop
+mul-row c = search needs
+
+array-copy-out-row : tie.Need-array-copy-out-row Inv-loop μ-loop
+array-copy-out-row c = search needs
+
+mix-requires : tie.Need-mix-requires Inv-loop μ-loop
+mix-requires c κs = search needs
+
+returns : tie.Need-returns Inv-loop μ-loop
+returns c = search (pivot-here, needs)
+
+add-i : tie.Need-add-i Inv-loop μ-loop
+add-i c = search needs
+
+loop-less : tie.Need-loop-less Inv-loop μ-loop
+loop-less c = search needs
+
+loop-again : tie.Need-loop-again Inv-loop μ-loop
+loop-again c = search (quiet-more, needs)
+
+returns-2 : tie.Need-returns-2 Inv-loop μ-loop
+returns-2 c = search (pivot-none, needs)
+
+pub pivot-spec : {M : Type 1} → statement M
+pivot-spec =
+    tie.close
+    (tie.spec
+    Inv-loop
+    μ-loop
+    loop-holds
+    mul-row
+    array-copy-out-row
+    mix-requires
+    returns
+    add-i
+    loop-less
+    loop-again
+    returns-2)

@@ -1,0 +1,54 @@
+use borrow.Author.Needs.{needs}
+use Prim.Native.Nat.{_≤_, _-_}
+use Rattle.mender.proofs.Turns.{RowAddedTo, row-added-none, row-added-again, row-added-all, row-added-long}
+use Rattle.mender.proofs.row_added.Statement.{statement}
+use Rattle.mender.proofs.row_added.Tie as tie
+
+abbrev Inv-loop : tie.InvT-loop
+Inv-loop f other r₀ k₀ r k = (k ≤ 6) × RowAddedTo r₀ f other r k
+
+abbrev μ-loop : tie.MeasureT-loop
+μ-loop f other r₀ k₀ r k = 6 - k
+
+loop-holds : tie.Need-loop-holds Inv-loop μ-loop
+loop-holds c = search (row-added-none, needs)
+
+array-read-r : tie.Need-array-read-r Inv-loop μ-loop
+array-read-r c = search needs
+
+array-read-times : tie.Need-array-read-times Inv-loop μ-loop
+array-read-times c = search needs
+
+times-requires : tie.Need-times-requires Inv-loop μ-loop
+times-requires c κs = search needs
+
+array-write-r : tie.Need-array-write-r Inv-loop μ-loop
+array-write-r c = search needs
+
+add-k : tie.Need-add-k Inv-loop μ-loop
+add-k c = search needs
+
+loop-less : tie.Need-loop-less Inv-loop μ-loop
+loop-less c = search needs
+
+loop-again : tie.Need-loop-again Inv-loop μ-loop
+loop-again c = search (row-added-again, needs)
+
+returns : tie.Need-returns Inv-loop μ-loop
+returns c = search (row-added-all, needs)
+
+pub row-added-spec : {M : Type 1} → statement M
+row-added-spec =
+    tie.close
+    (tie.spec
+    Inv-loop
+    μ-loop
+    loop-holds
+    array-read-r
+    array-read-times
+    times-requires
+    array-write-r
+    add-k
+    loop-less
+    loop-again
+    returns)

@@ -1,0 +1,51 @@
+use borrow.Author.Needs.{needs}
+use Prim.Native.Nat.{suc, _≤_, _-_}
+use Rattle.mender.specs.Inside.{Units}
+use Rattle.mender.proofs.Turns.{units-none, units-turn, units-all, units-long}
+use Rattle.mender.proofs.units.Statement.{statement}
+use Rattle.mender.proofs.units.Tie as tie
+
+abbrev Inv-loop : tie.InvT-loop
+Inv-loop e m₀ i₀ m i = (i ≤ suc e) × Units i m
+
+abbrev μ-loop : tie.MeasureT-loop
+μ-loop e m₀ i₀ m i = suc e - i
+
+loop-holds : tie.Need-loop-holds Inv-loop μ-loop
+loop-holds c = search (units-none, needs)
+
+mul-m : tie.Need-mul-m Inv-loop μ-loop
+mul-m c = search needs
+
+index-1-m : tie.Need-index-1-m Inv-loop μ-loop
+index-1-m c = search needs
+
+index-2-m : tie.Need-index-2-m Inv-loop μ-loop
+index-2-m c = search needs
+
+add-i : tie.Need-add-i Inv-loop μ-loop
+add-i c = search needs
+
+loop-less : tie.Need-loop-less Inv-loop μ-loop
+loop-less c = search needs
+
+loop-again : tie.Need-loop-again Inv-loop μ-loop
+loop-again c = search (units-turn, needs)
+
+returns : tie.Need-returns Inv-loop μ-loop
+returns c = search (units-all, needs)
+
+pub units-spec : {M : Type 1} → statement M
+units-spec =
+    tie.close
+    (tie.spec
+    Inv-loop
+    μ-loop
+    loop-holds
+    mul-m
+    index-1-m
+    index-2-m
+    add-i
+    loop-less
+    loop-again
+    returns)

@@ -1,0 +1,50 @@
+use borrow.Author.Needs.{needs}
+use Prim.Native.Nat.{_≤_, _-_}
+use Rattle.mender.proofs.Turns.{SummedTo, summed-none, summed-second, summed-all, summed-long}
+use Rattle.mender.proofs.word_added.Statement.{statement}
+use Rattle.mender.proofs.word_added.Tie as tie
+
+abbrev Inv-loop : tie.InvT-loop
+Inv-loop word r₀ a₀ r a = (a ≤ 63) × SummedTo 63 word r₀ r₀ r a
+
+abbrev μ-loop : tie.MeasureT-loop
+μ-loop word r₀ a₀ r a = 63 - a
+
+loop-holds : tie.Need-loop-holds Inv-loop μ-loop
+loop-holds c = search (summed-none, needs)
+
+shared-slice-read-r : tie.Need-shared-slice-read-r Inv-loop μ-loop
+shared-slice-read-r c = search needs
+
+array-read-r : tie.Need-array-read-r Inv-loop μ-loop
+array-read-r c = search needs
+
+array-write-r : tie.Need-array-write-r Inv-loop μ-loop
+array-write-r c = search needs
+
+add-a : tie.Need-add-a Inv-loop μ-loop
+add-a c = search needs
+
+loop-less : tie.Need-loop-less Inv-loop μ-loop
+loop-less c = search needs
+
+loop-again : tie.Need-loop-again Inv-loop μ-loop
+loop-again c = search (summed-second, needs)
+
+returns : tie.Need-returns Inv-loop μ-loop
+returns c = search (summed-all, needs)
+
+pub word-added-spec : {M : Type 1} → statement M
+word-added-spec =
+    tie.close
+    (tie.spec
+    Inv-loop
+    μ-loop
+    loop-holds
+    shared-slice-read-r
+    array-read-r
+    array-write-r
+    add-a
+    loop-less
+    loop-again
+    returns)

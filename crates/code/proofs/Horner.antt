@@ -7,7 +7,7 @@ use lib.ListN.{getD}
 use Rattle.field.specs.Field.{sum, product, α, power, total}
 use Rattle.field.proofs.Laws
 use Rattle.field.proofs.Totals.{total-same, total-scaled}
-use Rattle.code.specs.Word.{powerSum, marks, listed}
+use Rattle.code.specs.Word.{marks, listed}
 use Rattle.code.specs.Inside.{PowerSums, wordAt}
 use Rattle.code.proofs.Words.{listed-long, listed-get}
 use Rattle.code.proofs.Sums.{powerSum-at}

@@ -1,7 +1,12 @@
--- The laws of words.
+-- The laws of words, the turns of the code, and the theorems.
 pub mod Words
 pub mod Distances
 pub mod Sums
 pub mod Horner
 pub mod Lines
 pub mod Turns
+pub mod Apart
+pub mod Address
+pub mod Orders
+pub mod Turning
+pub mod Theorems

@@ -1,7 +1,7 @@
 -- Clean words and lines: sums of clean words, the marks put on and taken off, and how a test tells a line.
 use mathlib.Core.Path.{_≡_, refl, sym, ap, ap₂, _∙_, subst}
-use mathlib.Core.List.{List, [], _∷_}
-use Prim.Native.Nat.{ℕ, zero, suc, _+_, _<_, _≤_}
+use mathlib.Core.List.{List}
+use Prim.Native.Nat.{ℕ, _+_, _<_, _≤_}
 use native.Mathlib.Nat.{le-of-eq}
 use native.Mathlib.Omega.{arith}
 use lib.ListN.{length, getD}
@@ -86,3 +86,7 @@ module _ (l : List ℕ) where
             powerSum-added (58 + k) l marks same
             ∙ ap (λ (t : ℕ). sum t (powerSum (58 + k) marks)) (s k b) ∙ Laws.sum-self (powerSum (58 + k) marks);
       })
+
+-- the marks are themselves a line, that of 0 text and number 0
+pub marks-line : Line marks
+marks-line = sums-line marks marks-long marks-characters (λ k h. refl)

@@ -1,13 +1,14 @@
 -- The power sums of a word: as sums at the places of its characters, as the value of a polynomial, and of two words added.
 use mathlib.Core.Path.{_≡_, refl, sym, ap, ap₂, _∙_, subst}
 use mathlib.Core.List.{List, [], _∷_}
-use Prim.Native.Nat.{ℕ, zero, suc, _+_, _-_, _*_, _%_, _<_, _≤_}
+use Prim.Native.Nat.{ℕ, zero, suc, _-_, _*_, _%_, _<_, _≤_}
 use native.Mathlib.Nat.{not-suc-le-zero, le-of-suc-le-suc, mul-comm}
 use native.Mathlib.Omega.{arith}
-use lib.ListN.{length, getD}
+use lib.ListN.{length, getD, set}
+use lib.Seq.{getD-set-same, getD-set-other}
 use Rattle.field.specs.Field.{sum, product, α, power, total}
 use Rattle.field.proofs.Laws
-use Rattle.field.proofs.Totals.{total-same, total-sum, total-front, total-lt}
+use Rattle.field.proofs.Totals.{total-same, total-sum, total-front, total-only, total-lt}
 use Rattle.polynomial.specs.Sums.{moment, Fresh, Places, Values}
 use Rattle.code.specs.Word.{Characters, powerSum, added}
 use Rattle.code.specs.Inside.{wordAt}
@@ -90,6 +91,25 @@ powerSum-added j u v h =
     ap (λ (c : ℕ). product c (power α (j * (62 - a) % 63))) (added-get u v h a)
     ∙ Laws.sum-product (getD u a 0) (getD v a 0) (power α (j * (62 - a) % 63)))
     ∙ total-sum 63 (λ a. product (getD u a 0) (power α (j * (62 - a) % 63))) (λ a. product (getD v a 0) (power α (j * (62 - a) % 63)))
+
+-- one character changed
+pub powerSum-set : (j : ℕ) (w : List ℕ) (a c : ℕ) → a < 63 → a < length w
+    → powerSum j (set w a c) ≡ sum (powerSum j w) (product (sum (getD w a 0) c) (power α (j * (62 - a) % 63)))
+unfolding powerSum
+powerSum-set j w a c h l =
+    sym (Laws.sum-undo (total 63 (term w)) (total 63 (term (set w a c))))
+    ∙ ap (sum (total 63 (term w)))
+    (sym (total-sum 63 (term w) (term (set w a c)))
+    ∙ total-only 63 a (λ i. sum (term w i) (term (set w a c) i)) h
+    (λ i b d. ap (λ (x : ℕ). sum (term w i) (product x (x-power i))) (getD-set-other w a i c 0 d) ∙ Laws.sum-self (term w i))
+    ∙ ap (λ (x : ℕ). sum (term w a) (product x (x-power a))) (getD-set-same w a c 0 l)
+    ∙ sym (Laws.sum-product (getD w a 0) c (x-power a)))
+  where
+    x-power : ℕ → ℕ
+    x-power i = power α (j * (62 - i) % 63)
+
+    term : List ℕ → ℕ → ℕ
+    term v i = product (getD v i 0) (power α (j * (62 - i) % 63))
 
 -- ---- at the places
 

@@ -1,11 +1,12 @@
 -- Words by their characters: listed by a rule, and two words added.
-use mathlib.Core.Path.{_≡_, refl, sym, ap, ap₂, _∙_}
+use mathlib.Core.Path.{_≡_, refl, sym, ap, ap₂, _∙_, subst}
 use mathlib.Core.Logic.{⊎-elim}
 use mathlib.Core.List.{List, [], _∷_}
 use Prim.Native.Nat.{ℕ, zero, suc, _+_, _<_, _≤_}
 use native.Mathlib.Nat.{add-zero, zero-add, add-suc, suc-add, not-suc-le-zero, le-of-suc-le-suc}
 use native.Mathlib.Omega.{arith}
 use lib.ListN.{length, getD, List·getD-eq-default}
+use lib.Seq.{ext-getD}
 use Rattle.numbers.proofs.Cases.{le-or-lt}
 use Rattle.field.specs.Field.{sum}
 use Rattle.field.proofs.Laws
@@ -14,6 +15,10 @@ use Rattle.code.specs.Word.{Characters, added, listed}
 
 pub cons : {c d : ℕ} {cs ds : List ℕ} → c ≡ d → cs ≡ ds → c ∷ cs ≡ d ∷ ds
 cons p q = ap₂ (λ (c : ℕ) (cs : List ℕ). c ∷ cs) p q
+
+-- 63 characters are fixed by their addresses
+pub same-word : (u v : List ℕ) → length u ≡ 63 → length v ≡ 63 → ((a : ℕ) → a < 63 → getD u a 0 ≡ getD v a 0) → u ≡ v
+same-word u v hu hv h = ext-getD 0 u v (hu ∙ sym hv) (λ a l. h a (subst (λ (n : ℕ). a < n) hu l))
 
 -- past its end a word has 0
 pub characters-below : (w : List ℕ) (n : ℕ) → length w ≤ n → ((a : ℕ) → a < n → getD w a 0 < 64) → Characters w

@@ -1,0 +1,115 @@
+-- What is proved of words and lines, in the paper's order: the address rule, the distance of 12, the line near a word, text and number, turning and reversing.
+use mathlib.Core.Path.{_≡_, refl, sym, _∙_}
+use mathlib.Core.Bool.{Bool, true, false}
+use mathlib.Core.Logic.{⊎-elim}
+use mathlib.Core.List.{List}
+use Prim.Native.Nat.{ℕ, _+_, _-_, _%_, _<_, _≤_}
+use native.Mathlib.Omega.{arith}
+use lib.ListN.{length, replicate, take}
+use lib.Seq.{ext-getD}
+use Rattle.numbers.proofs.Cases.{le-or-lt}
+use Rattle.field.specs.Field.{product, α, power, Log, Quotient}
+use Rattle.field.proofs.Laws
+use Rattle.polynomial.specs.Sums.{weight}
+use Rattle.code.specs.Word.{powerSum, Clean, marks, Line, text, number, distance, turned, reversed}
+use Rattle.code.specs.Promises.{Tells, TellsLine}
+use Rattle.code.specs.Inside.{PowerSums}
+use Rattle.code.proofs.Sums.{powerSum-lt}
+use Rattle.code.proofs.Distances
+use Rattle.code.proofs.Lines.{marks-line, line-long}
+use Rattle.code.proofs.Apart
+use Rattle.code.proofs.Address.{wrongAt, zeroth-sum, first-sum, sums-ratio, address-by-logs}
+use Rattle.code.proofs.Turning
+
+-- v, which is not 0, added at address a of a clean word: S_0 is v and S_1 is v α^(62 - a),
+-- so the address of the one wrong character is 62 - (log S_1 - log S_0), modulo 63
+pub record WrongCharacter (x : List ℕ) (a v : ℕ) : Type 0 where
+  pub zeroth : powerSum 0 x ≡ v
+  pub first : powerSum 1 x ≡ product v (power α (62 - a))
+  pub ratio : Quotient (powerSum 1 x) (powerSum 0 x) (power α (62 - a))
+  pub first-log : (m : ℕ) × Log (powerSum 1 x) m
+  pub zeroth-log : (n : ℕ) × Log (powerSum 0 x) n
+  pub address : (m n : ℕ) → Log (powerSum 1 x) m → Log (powerSum 0 x) n → a ≡ (62 + (63 + n - m)) % 63
+
+pub one-wrong-character : (w : List ℕ) (a v : ℕ) → Clean w → a < 63 → 0 < v → v < 64 → WrongCharacter (wrongAt w a v) a v
+one-wrong-character w a v c ha p hv =
+    let x : List ℕ = wrongAt w a v in
+    let z : powerSum 0 (wrongAt w a v) ≡ v = zeroth-sum w a v c ha hv in
+    let f : powerSum 1 (wrongAt w a v) ≡ product v (power α (62 - a)) = first-sum w a v c ha hv in
+    record {
+      zeroth = z;
+      first = f;
+      ratio = sums-ratio w a v c ha hv p;
+      first-log = Laws.has-log (powerSum 1 x)
+          (rw f (Laws.product-pos v (power α (62 - a)) p hv (Laws.power-pos α (62 - a) (omega arith) (omega arith)) (Laws.power-lt α (62 - a))))
+          (powerSum-lt 1 x);
+      zeroth-log = Laws.has-log (powerSum 0 x) (rw z p) (powerSum-lt 0 x);
+      address = address-by-logs w a v c ha hv;
+    }
+
+-- the marks alone are a line
+pub zero-line : Line marks
+zero-line = marks-line
+
+-- a clean word with at most 11 characters that are not 0 is 0
+pub light-clean-word : (w : List ℕ) → Clean w → weight w ≤ 11 → w ≡ replicate 63 0
+light-clean-word = Apart.clean-zero
+
+-- two different lines differ in at least 12 characters
+pub twelve-apart : (u v : List ℕ) → Line u → Line v → (u ≡ v → ⊥) → 12 ≤ distance u v
+twelve-apart u v lu lv d =
+    ⊎-elim (λ (h : 12 ≤ distance u v). h) (λ (h : distance u v < 12). absurd (d (Apart.lines-near u v lu lv (omega arith))))
+    (le-or-lt 12 (distance u v))
+
+-- the distance is the same from either end, 0 between a word and itself alone, and never longer than by way of a third
+pub symmetric : (u v : List ℕ) → distance u v ≡ distance v u
+symmetric = Distances.distance-comm
+
+pub apart-from-itself : (u : List ℕ) → distance u u ≡ 0
+apart-from-itself = Distances.distance-self
+
+pub not-apart : (u v : List ℕ) → length u ≡ length v → distance u v ≡ 0 → u ≡ v
+not-apart = Distances.distance-zero
+
+pub triangle-inequality : (u w v : List ℕ) → length u ≡ length w → length v ≡ length w → distance u v ≤ distance u w + distance w v
+triangle-inequality = Distances.triangle
+
+-- if a line lies within t, t at most 5, it is the only one
+pub one-line-near : (w u v : List ℕ) (t : ℕ) → length w ≡ 63 → t ≤ 5 → Line u → Line v → distance w u ≤ t → distance w v ≤ t → u ≡ v
+one-line-near w u v t h l lu lv p q =
+    Apart.lines-near u v lu lv
+    (let d = Apart.both-near w u v t (line-long u lu ∙ sym h) (line-long v lv ∙ sym h) p q in omega arith)
+
+-- and so with clean words
+pub one-clean-near : (w u v : List ℕ) (t : ℕ) → length w ≡ 63 → t ≤ 5 → Clean u → Clean v → distance w u ≤ t → distance w v ≤ t → u ≡ v
+one-clean-near w u v t h l cu cv p q =
+    Apart.clean-near u v cu cv
+    (let d = Apart.both-near w u v t (cu .long ∙ sym h) (cv .long ∙ sym h) p q in omega arith)
+
+-- two lines with the same first 52 characters, or the same text and number, are one
+pub one-line-of-52 : (u v : List ℕ) → Line u → Line v → take 52 u ≡ take 52 v → u ≡ v
+one-line-of-52 = Apart.same-52
+
+pub one-line-of-text : (u v : List ℕ) → Line u → Line v → text u ≡ text v → number u ≡ number v → u ≡ v
+one-line-of-text = Apart.same-information
+
+-- a clean word turned or reversed is clean
+pub turned-clean : (k : ℕ) (w : List ℕ) → Clean w → Clean (turned k w)
+turned-clean = Turning.clean-turned
+
+pub reversed-clean : (s : ℕ) (w : List ℕ) → Clean w → Clean (reversed s w)
+reversed-clean = Turning.clean-reversed
+
+-- a test tells one thing, and there is one list of sums
+pub one-verdict : (P : Type 0) (b c : Bool) → Tells P b → Tells P c → b ≡ c
+one-verdict P true true s t = refl
+one-verdict P true false s t = absurd (t .fails refl (s .holds refl))
+one-verdict P false true s t = absurd (s .fails refl (t .holds refl))
+one-verdict P false false s t = refl
+
+pub one-line-verdict : (w : List ℕ) (b c : Bool) → TellsLine w b → TellsLine w c → b ≡ c
+one-line-verdict w = one-verdict (Line w)
+
+pub one-list-of-sums : (w r s : List ℕ) → PowerSums w r → PowerSums w s → r ≡ s
+one-list-of-sums w r s p q =
+    ext-getD 0 r s (p .long ∙ sym (q .long)) (λ k h. let l = p .long in p .sum-at k (omega arith) ∙ sym (q .sum-at k (omega arith)))

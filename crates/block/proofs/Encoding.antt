@@ -7,7 +7,7 @@ use Prim.Native.Nat.{ℕ, zero, suc, _+_, _-_, _*_, _%_, _<_, _≤_}
 use native.Mathlib.Nat.{not-suc-le-zero, le-of-suc-le-suc}
 use native.Mathlib.Omega.{arith}
 use lib.Dec.{T, eqb, eqb→eq}
-use lib.ListN.{length, getD, take, drop, length-append, length-map, drop-of-length-le}
+use lib.ListN.{length, getD, take, length-append, length-map, drop-of-length-le}
 use lib.Seq.{split-at, take-at}
 use lib.Bits.{bitXor, xor-comm, xor-lt, xor-mod, xor-zero-r}
 use lib.Count.{onesIn}
@@ -15,7 +15,7 @@ use borrow.Author.Tests.{not-true, not-false}
 use Rattle.numbers.proofs.Cases.{bit-cases}
 use Rattle.numbers.proofs.Range.{each, each-at}
 use Rattle.numbers.proofs.Xor.{xor-assoc, xor-undo}
-use Rattle.block.specs.Block.{Bytes, Block, dataOf, ones, Proper, Sevens, Holds}
+use Rattle.block.specs.Block.{Bytes, dataOf, ones, Sevens, Holds}
 use Rattle.block.specs.Promises.{Encodes}
 use Rattle.block.specs.Inside.{oddRows, summed, wanted, Tells, checked, withChecks, encoded}
 use Rattle.block.proofs.Bits.{ones-parity}

@@ -12,7 +12,6 @@ use lib.ListN.{length, getD, set, take, drop, length-map, length-set, List·getD
 use lib.Seq.{drop-cons, drop-length, take-suc, take-length, set-at, append-snoc, length-take-le}
 use lib.Bits.{bitXor, xor-zero-r}
 use Rattle.numbers.proofs.Xor.{xor-assoc}
-use Rattle.block.specs.declared.Faults.{Faults}
 use Rattle.block.specs.Block.{Bytes, ones, Sevens}
 use Rattle.block.specs.Inside.{oddRows, summed, wanted, Counted, Tells, checked, withChecks, encoded}
 use Rattle.block.proofs.Encoding.{checks-at, summed-snoc}
@@ -125,14 +124,14 @@ pub put-more : (given old out : List ℕ) (columns i x : ℕ) → PutTo given ol
     → PutTo given old (set out i x) (bitXor columns x) (i + 1)
 put-more given old out columns i x p h e =
     let s : List ℕ = withChecks given in
-    let l : i < length (withChecks given) = rw (length-map given checked) h in
+    let l : i < length s = rw (length-map given checked) h in
     let r : length old ≡ length given + 1 = p .room in
-    let v : x ≡ getD (withChecks given) i 0 = e ∙ sym (checks-at given i h) in
+    let v : x ≡ getD s i 0 = e ∙ sym (checks-at given i h) in
     record {
       most = omega arith;
       room = p .room;
       long = length-set out i x ∙ p .long;
-      done = rw (p .done, v, add-one) (one-more old (withChecks given) i (omega arith) l);
+      done = rw (p .done, v, add-one) (one-more old s i (omega arith) l);
       sums = rw (p .sums, v, add-one)
           (xor-assoc wanted (summed (take i s)) (getD s i 0) ∙ ap (bitXor wanted) (sym (summed-snoc (take i s) (getD s i 0)) ∙ ap summed (sym (take-suc s i 0 l))));
     }

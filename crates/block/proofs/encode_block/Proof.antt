@@ -1,20 +1,21 @@
 -- `block::encode_block` meets its contract: each return is one way in which encoding ends.
+use native.Mathlib.Omega.{arith}
 use borrow.Author.Needs.{needs}
 use Rattle.block.proofs.Encoding.{few-data, many-data, other-room, over, written}
 use Rattle.block.proofs.encode_block.Statement.{statement}
 use Rattle.block.proofs.encode_block.Tie as tie
 
 returns : tie.Need-returns
-returns c = search (few-data, needs)
+returns c = few-data _ _ (omega arith)
 
 returns-2 : tie.Need-returns-2
-returns-2 c = search (many-data, needs)
+returns-2 c = many-data _ _ (omega arith)
 
 add-if3 : tie.Need-add-if3
 add-if3 c = search needs
 
 returns-3 : tie.Need-returns-3
-returns-3 c = search (other-room, needs)
+returns-3 c = other-room _ _ (omega arith) (omega arith) (search needs)
 
 all-sevens-requires : tie.Need-all-sevens-requires
 all-sevens-requires c κs = search needs

@@ -1,29 +1,35 @@
 -- `block::read_block` meets its contract: each return is one way in which reading ends.
+use Prim.Native.Nat.{_<_, _≤_}
+use native.Mathlib.Omega.{arith}
 use borrow.Author.Needs.{needs}
 use Rattle.block.proofs.Reading.{few-rows, many-rows, other-room, many-odd, many-columns, row-inside, found}
 use Rattle.block.proofs.read_block.Statement.{statement}
 use Rattle.block.proofs.read_block.Tie as tie
 
 returns : tie.Need-returns
-returns c = search (few-rows, needs)
+returns c = few-rows _ _ (omega arith)
 
 returns-2 : tie.Need-returns-2
-returns-2 c = search (many-rows, needs)
+returns-2 c = many-rows _ _ (omega arith)
 
 returns-3 : tie.Need-returns-3
-returns-3 c = search (other-room, needs)
+returns-3 c = other-room _ _ (omega arith) (omega arith) (search needs)
 
 faults-of-requires : tie.Need-faults-of-requires
 faults-of-requires c κs = search needs
 
 returns-4 : tie.Need-returns-4
-returns-4 c = search (many-odd, needs)
+returns-4 c =
+    let many : 1 < c .before .before .faults-of .result .rows = omega arith in
+    search (many-odd, needs)
 
 ones-of-requires : tie.Need-ones-of-requires
 ones-of-requires c κs = search needs
 
 returns-5 : tie.Need-returns-5
-returns-5 c = search (many-columns, needs)
+returns-5 c =
+    let many : 1 < c .before .ones-of .result = omega arith in
+    search (many-columns, needs)
 
 copy-requires : tie.Need-copy-requires
 copy-requires c κs = search needs
@@ -38,7 +44,11 @@ same-length : tie.Need-same-length
 same-length c = search needs
 
 returns-6 : tie.Need-returns-6
-returns-6 c = search (found, needs)
+returns-6 c =
+    let seen = c .before .before .before .before .before .before in
+    let few : seen .before .before .before .faults-of .result .rows ≤ 1 = omega arith in
+    let small : seen .ones-of .result ≤ 1 = omega arith in
+    search (found, needs)
 
 pub read-block-spec : {M : Type 1} → statement M
 read-block-spec =

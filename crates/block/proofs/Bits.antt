@@ -5,6 +5,8 @@ use native.Mathlib.Nat.{zero-lt-suc, pow-suc, div-div-eq-div-mul, mul-comm}
 use native.Mathlib.Omega.{arith}
 use lib.Bits.{bitXor, bitAnd, xor-shr, xor-mod, and-shr, and-mod, xor-add-and}
 use lib.Count.{onesIn}
+use lib.Dec.{T, eqb, eqb→eq}
+use Rattle.numbers.proofs.Range.{each, each-at}
 use Rattle.block.specs.Block.{ones}
 
 -- the ones of an exclusive or are those of both, less twice the common ones
@@ -65,3 +67,11 @@ lowest (suc n) x h =
 
 pub byte-ones : (x : ℕ) → x < 256 → lib.Count.ones x ≡ ones x
 byte-ones x h = lowest 8 x h
+
+-- a byte of one bit
+one-bit-test : T (each 8 (λ j. eqb (ones (2 ^ j)) 1))
+unfolding onesIn
+one-bit-test = tt
+
+pub one-bit : (j : ℕ) → j < 8 → ones (2 ^ j) ≡ 1
+one-bit j h = eqb→eq (ones (2 ^ j)) 1 (each-at 8 (λ j. eqb (ones (2 ^ j)) 1) one-bit-test j h)

@@ -4,6 +4,7 @@ pub mod Columns
 pub mod Apart
 pub mod Encoding
 pub mod Reading
+pub mod Results
 pub mod Turns
 pub mod Theorems
 pub mod Bench

@@ -74,8 +74,12 @@ module _ (rows old : List ℕ) (least : 2 ≤ length rows) (most : length rows �
           omega arith)
 
       module _ (few : f .rows ≤ 1) (small : d ≤ 1) where
-        mended : List ℕ
-        mended = set rows (f .row) (bitXor (getD rows (f .row) 0) (f .columns))
+        -- the odd row with the wrong column's bit turned, and the rows with it
+        abbrev turned : ℕ
+        turned = bitXor (getD rows (f .row) 0) (f .columns)
+
+        abbrev mended : List ℕ
+        mended = set rows (f .row) turned
 
         inside : f .row < length rows
         inside = counted .inside (omega arith)
@@ -91,26 +95,24 @@ module _ (rows old : List ℕ) (least : 2 ≤ length rows) (most : length rows �
             omega arith
 
         none-odd : oddRows mended ≡ 0
-        unfolding mended
         none-odd =
             let x : ℕ = getD rows (f .row) 0 in
-            let s : oddRows (set rows (f .row) (bitXor x (f .columns))) + ones x % 2 ≡ oddRows rows + ones (bitXor x (f .columns)) % 2 = odd-set rows (f .row) (bitXor x (f .columns)) inside in
-            let q : ones (bitXor x (f .columns)) % 2 ≡ (ones x + ones (f .columns)) % 2 = ones-parity x (f .columns) in
+            let s : oddRows mended + ones x % 2 ≡ oddRows rows + ones turned % 2 = odd-set rows (f .row) turned inside in
+            let q : ones turned % 2 ≡ (ones x + ones (f .columns)) % 2 = ones-parity x (f .columns) in
             let o : f .rows ≡ oddRows rows = counted .rows-odd in
             let a : f .rows ≡ d = as-many in
             ⊎-elim (λ (one : d ≡ 1). let k : ones x % 2 ≡ 1 = counted .row-odd (omega arith) in omega arith) (λ (none : d < 1). omega arith) (eq-or-lt-of-le small)
 
         near : Near rows mended
-        unfolding mended
         near =
-            let l : length (set rows (f .row) (bitXor (getD rows (f .row) 0) (f .columns))) ≡ length rows = length-set rows (f .row) (bitXor (getD rows (f .row) 0) (f .columns)) in
+            let l : length mended ≡ length rows = length-set rows (f .row) turned in
             record {
               long = l;
               proper = is-proper mended
                   (record {
                     least = omega arith;
                     most = omega arith;
-                    bytes = bytes-set rows (f .row) (bitXor (getD rows (f .row) 0) (f .columns)) (counted .bytes) (xor-lt 8 (getD rows (f .row) 0) (f .columns) (counted .bytes (f .row)) columns-byte);
+                    bytes = bytes-set rows (f .row) turned (counted .bytes) (xor-lt 8 (getD rows (f .row) 0) (f .columns) (counted .bytes (f .row)) columns-byte);
                   })
                   none-odd
                   (summed-set rows (f .row) (f .columns) inside ∙ ap (λ (c : ℕ). bitXor (summed rows) c) (counted .columns-odd ∙ xor-comm wanted (summed rows)) ∙ xor-undo (summed rows) wanted);
@@ -120,6 +122,5 @@ module _ (rows old : List ℕ) (least : 2 ≤ length rows) (most : length rows �
         -- else the bit where the odd row and the wrong column meet is turned, if there are any
         pub found : (copied : List ℕ) → copied ≡ take (length rows) rows ++ drop (length rows) old
             → Reads rows old (0 ∷ d ∷ []) (set copied (f .row) (bitXor (getD copied (f .row) 0) (f .columns)))
-        unfolding mended
         found copied e =
             rw (e ∙ whole rows old room) (near-reads rows old mended d room near (ends ∙ sym (distance-set rows (f .row) (f .columns) inside)))

@@ -1,27 +1,26 @@
 -- What is proved of parity blocks, in the words of the rules.
 use mathlib.Core.Path.{_≡_, refl, sym, ap, _∙_}
-use mathlib.Core.List.{List, [], _∷_}
+use mathlib.Core.List.{List}
 use Prim.Native.Nat.{ℕ, _^_, _<_, _≤_}
 use native.Mathlib.Decide.{decLt}
 use native.Mathlib.Omega.{arith}
-use lib.Dec.{T, eqb, eqb→eq}
 use lib.ListN.{length, getD, set, length-set}
 use lib.Bits.{bitXor}
-use lib.Count.{onesIn}
-use Rattle.numbers.proofs.Range.{each, each-at}
-use Rattle.refusal.proofs.Laws.{one-refusal, refusal-positive}
+use Rattle.refusal.specs.declared.Refusal.the-variants.{NoBlock}
 use Rattle.refusal.proofs.Theorems.{one-result, same-numbers}
 use Rattle.block.specs.declared.BlockReading.{BlockReading}
 use Rattle.block.specs.declared.BlockReading.the-variants as R
 use Rattle.block.specs.declared.BlockEncoding.{BlockEncoding}
 use Rattle.block.specs.declared.BlockEncoding.the-variants as E
-use Rattle.block.specs.Block.{ones, Proper, distance, Near, Sevens, Holds}
+use Rattle.block.specs.Block.{Proper, distance, Near, Mendable, Sevens, Holds}
 use Rattle.block.specs.Promises.{readingNumbers, encodingNumbers, readingTests, encodingTests, ReadAs, EncodedAs, Reads, Encodes}
 use Rattle.block.specs.Inside.{encoded}
+use Rattle.block.proofs.Bits.{one-bit}
 use Rattle.block.proofs.Columns.{distance-self, distance-comm, distance-set}
 use Rattle.block.proofs.Apart.{apart, near-same}
 use Rattle.block.proofs.Encoding.{encoded-holds, holds-encoded}
-use Rattle.block.proofs.Reading.{near-reads}
+use Rattle.block.proofs.Reading.{near-reads, none-near}
+use Rattle.block.proofs.Results.{reading-fixed, encoding-fixed, one-read-as, one-encoded-as}
 
 -- ---- proper blocks
 
@@ -49,18 +48,6 @@ one-block given least most sevens =
 
 -- ---- reading
 
--- the numbers fix the answer
-reading-fixed : (r s : BlockReading) → readingNumbers r ≡ readingNumbers s → r ≡ s
-reading-fixed (R.Block d) (R.Block e) q = ap R.Block (ap (λ (l : List ℕ). getD l 1 0) q)
-reading-fixed (R.Block d) (R.Refused s) q = absurd (refusal-positive s (sym (ap (λ (l : List ℕ). getD l 0 0) q)))
-reading-fixed (R.Refused r) (R.Block e) q = absurd (refusal-positive r (ap (λ (l : List ℕ). getD l 0 0) q))
-reading-fixed (R.Refused r) (R.Refused s) q = ap R.Refused (one-refusal r s (ap (λ (l : List ℕ). getD l 0 0) q))
-
-one-read-as : (rows f g x y : List ℕ) → ReadAs rows f x → ReadAs rows g y → (f ≡ g) × (x ≡ y)
-one-read-as rows f g x y s t =
-    let e : x ≡ y = one-near rows x y (s .0) (t .0) in
-    (s .1 ∙ ap (λ (b : List ℕ). distance rows b ∷ []) e ∙ sym (t .1), e)
-
 -- any two results of reading are equal
 pub one-reading : (rows old : List ℕ) (r s : BlockReading) (x y : List ℕ) → Reads rows old (readingNumbers r) x → Reads rows old (readingNumbers s) y → (r ≡ s) × (x ≡ y)
 unfolding Reads
@@ -81,12 +68,11 @@ pub read-near : (rows block old new : List ℕ) (r : BlockReading) → Near rows
 read-near rows block old new r n room h =
     one-reading rows old r (R.Block (distance rows block)) new block h (near-reads rows old block (distance rows block) room n refl)
 
-one-bit-test : T (each 8 (λ j. eqb (ones (2 ^ j)) 1))
-unfolding onesIn
-one-bit-test = tt
-
-one-bit : (j : ℕ) → j < 8 → ones (2 ^ j) ≡ 1
-one-bit j h = eqb→eq (ones (2 ^ j)) 1 (each-at 8 (λ j. eqb (ones (2 ^ j)) 1) one-bit-test j h)
+-- and rows with no proper block within one bit are refused, with 9
+pub read-none : (rows old new : List ℕ) (r : BlockReading) → 2 ≤ length rows → length rows ≤ 64 → length old ≡ length rows → (Mendable rows → ⊥)
+    → Reads rows old (readingNumbers r) new → (r ≡ R.Refused NoBlock) × (new ≡ old)
+read-none rows old new r least most room none h =
+    one-reading rows old r (R.Refused NoBlock) new old h (none-near rows old least most room none)
 
 -- so a proper block with one wrong bit is read as it was: a wrong check bit is mended like any other
 pub read-mended : (block old new : List ℕ) (r : BlockReading) (i j : ℕ) → Proper block → i < length block → j < 8 → length old ≡ length block
@@ -107,15 +93,6 @@ read-proper block old new r p room h =
     (e .0 ∙ ap R.Block d, e .1)
 
 -- ---- encoding
-
-encoding-fixed : (r s : BlockEncoding) → encodingNumbers r ≡ encodingNumbers s → r ≡ s
-encoding-fixed E.Written E.Written q = refl
-encoding-fixed E.Written (E.Refused s) q = absurd (refusal-positive s (sym (ap (λ (l : List ℕ). getD l 0 0) q)))
-encoding-fixed (E.Refused r) E.Written q = absurd (refusal-positive r (ap (λ (l : List ℕ). getD l 0 0) q))
-encoding-fixed (E.Refused r) (E.Refused s) q = ap E.Refused (one-refusal r s (ap (λ (l : List ℕ). getD l 0 0) q))
-
-one-encoded-as : (given f g x y : List ℕ) → EncodedAs given f x → EncodedAs given g y → (f ≡ g) × (x ≡ y)
-one-encoded-as given f g x y s t = (s .1 ∙ sym (t .1), holds-encoded given x (s .0) ∙ sym (holds-encoded given y (t .0)))
 
 -- any two results of encoding are equal
 pub one-encoding : (given old : List ℕ) (r s : BlockEncoding) (x y : List ℕ) → Encodes given old (encodingNumbers r) x → Encodes given old (encodingNumbers s) y → (r ≡ s) × (x ≡ y)

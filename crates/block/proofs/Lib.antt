@@ -1,0 +1,10 @@
+-- The laws of parity blocks, the ways in which reading and encoding end, the theorems, and the bench sheet's rows.
+pub mod Bits
+pub mod Columns
+pub mod Apart
+pub mod Encoding
+pub mod Reading
+pub mod Results
+pub mod Turns
+pub mod Theorems
+pub mod Bench

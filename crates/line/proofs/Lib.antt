@@ -1,0 +1,1 @@
+-- The laws of line reading and its theorems.

@@ -1,0 +1,90 @@
+// Reading a line: the line within the radius, or a refusal exactly when there is none.
+ghost use mathlib.Core.Path.{_≡_};
+ghost use Prim.Native.Nat.{_+_, _*_, _%_};
+ghost use lib.ListN.{getD};
+ghost use Rattle.refusal.specs.Promise.{Tells};
+ghost use Rattle.code.specs.Word.{number};
+ghost use Rattle.line.specs.Promises.{readingNumbers, Possible, Reads};
+ghost use Rattle.line.specs.Inside.{NearestLine, IsWanted};
+use mender::Mended;
+use refusal::Refusal;
+
+// The number that the line must carry, or none.
+pub enum Wanted {
+    Any,
+    Number(u16),
+}
+
+pub enum LineReading {
+    Line { number: u16, distance: u8 },
+    Refused(Refusal),
+}
+
+// Reads a line: writes the line within the radius of the word.
+pub fn read_line(word: &[u8], radius: u8, wanted: Wanted, output: &mut [u8]) -> LineReading
+    ensures { λ r. ⌜ Reads (now (word .entry)) radius wanted (now (output .entry)) (readingNumbers r) (now (output .exit)) ⌝ }
+{
+    if word.len() != 63 {
+        return LineReading::Refused(Refusal::InputLength);
+    }
+    if output.len() != 63 {
+        return LineReading::Refused(Refusal::OutputLength);
+    }
+    if !code::in_range(word) {
+        return LineReading::Refused(Refusal::ValueOver);
+    }
+    if radius > 5 {
+        return LineReading::Refused(Refusal::RadiusOver);
+    }
+    if !possible(wanted) {
+        return LineReading::Refused(Refusal::NumberOver);
+    }
+    let found = nearest_line(word, radius);
+    if !found.found {
+        return LineReading::Refused(Refusal::NoLine);
+    }
+    let line = found.word;
+    let number = number_of(line);
+    if !is_wanted(wanted, number) {
+        return LineReading::Refused(Refusal::OtherNumber);
+    }
+    bytes::copy(&line, output);
+    LineReading::Line {
+        number: number,
+        distance: found.weight,
+    }
+}
+
+// The line within the radius of a word: the radius counts up to 5. A line's power sums are those of the marks.
+pub fn nearest_line(word: &[u8], radius: u8) -> Mended
+    ensures { λ r. ⌜ NearestLine (now (word .entry)) radius r ⌝ }
+{
+    mender::nearest(word, code::mark_sums(), radius as usize)
+}
+
+// The number that a line carries: of each of its two characters the low six bits count.
+pub fn number_of(line: [u8; 63]) -> u16
+    ensures { λ r. ⌜ r ≡ getD line 50 0 % 64 * 64 + getD line 51 0 % 64 ⌝ }
+{
+    (line[50] % 64) as u16 * 64 + (line[51] % 64) as u16
+}
+
+// Whether the number wanted can be that of a line.
+fn possible(wanted: Wanted) -> bool
+    ensures { λ r. ⌜ Tells (Possible wanted) r ⌝ }
+{
+    match wanted {
+        Wanted::Any => true,
+        Wanted::Number(n) => n <= 4095,
+    }
+}
+
+// Whether a number is the one wanted.
+fn is_wanted(wanted: Wanted, number: u16) -> bool
+    ensures { λ r. ⌜ Tells (IsWanted wanted number) r ⌝ }
+{
+    match wanted {
+        Wanted::Any => true,
+        Wanted::Number(n) => n == number,
+    }
+}

@@ -6,7 +6,9 @@
 //!
 //! WHAT names a program crate: its files `stdin` and `stdout` are written anew. `git diff` then shows what differs.
 
+mod encoder;
 mod field;
+mod random;
 
 use std::fs;
 
@@ -22,9 +24,13 @@ fn store(name: &str, stdin: Option<&[u8]>, stdout: &[u8]) {
 fn main() {
     let what = std::env::args().nth(1).unwrap_or_default();
     match what.as_str() {
+        "encoder_cases" => {
+            let (stdin, stdout) = encoder::cases();
+            store(&what, Some(&stdin), stdout.as_bytes());
+        }
         "field_table" => store(&what, None, field::table().as_bytes()),
         _ => {
-            eprintln!("second WHAT, from the project's root. WHAT: field_table");
+            eprintln!("second WHAT, from the project's root. WHAT: encoder_cases field_table");
             std::process::exit(2);
         }
     }

@@ -7,6 +7,7 @@
 //! WHAT names a program crate: its files `stdin` and `stdout` are written anew. `git diff` then shows what differs.
 
 mod block;
+mod encoder;
 mod field;
 mod random;
 
@@ -28,9 +29,13 @@ fn main() {
             let (stdin, stdout) = block::cases();
             store(&what, Some(&stdin), stdout.as_bytes());
         }
+        "encoder_cases" => {
+            let (stdin, stdout) = encoder::cases();
+            store(&what, Some(&stdin), stdout.as_bytes());
+        }
         "field_table" => store(&what, None, field::table().as_bytes()),
         _ => {
-            eprintln!("second WHAT, from the project's root. WHAT: block_cases field_table");
+            eprintln!("second WHAT, from the project's root. WHAT: block_cases encoder_cases field_table");
             std::process::exit(2);
         }
     }

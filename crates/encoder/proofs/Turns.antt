@@ -1,0 +1,207 @@
+-- What the encoder's code does, a turn and a way out at a time, over plain variables.
+use mathlib.Core.Path.{_≡_, refl, sym, ap, ap₂, _∙_, subst}
+use mathlib.Core.Bool.{Bool, true, false}
+use mathlib.Core.Logic.{inl, inr}
+use mathlib.Core.List.{List, [], _∷_, _++_, append-nil, append-assoc}
+use Prim.Native.Nat.{ℕ, suc, _+_, _-_, _/_, _%_, _<_, _≤_}
+use native.Mathlib.Numerals.{add-one}
+use native.Mathlib.Omega.{arith}
+use borrow.Author.Count.{below-more}
+use lib.Bits.{bitXor}
+use lib.ListN.{length, getD, set, take, drop, replicate, length-append, length-take, length-drop, length-set, List·getD-eq-default, drop-of-length-le}
+use lib.Seq.{ext-getD, getD-set-same, getD-set-other, take-suc, take-all, take-length, take-at, drop-at, set-at}
+use Rattle.field.specs.Field.{sum, product}
+use Rattle.field.proofs.Laws
+use Rattle.code.specs.Word.{Characters}
+use Rattle.code.specs.Promises.{Tells}
+use Rattle.encoder.specs.declared.Register.{Register}
+use Rattle.encoder.specs.Division.{remainder}
+use Rattle.encoder.specs.Register.{stepped, checksOf}
+use Rattle.encoder.specs.Promises.{LineWith, Encodes, Steps, Checks}
+use Rattle.encoder.specs.Inside.{information, encoded}
+use Rattle.encoder.proofs.Division.{below, lower}
+use Rattle.encoder.proofs.Stepping.{stepped-long, stepped-get, remainder-none, remainder-more, checks-are}
+use Rattle.encoder.proofs.Encoding.{encoded-line}
+
+-- ---- a step of the division
+
+-- the first i places of the next register are known
+pub record DividedTo (held : List ℕ) (c feedback : ℕ) (left : List ℕ) (i : ℕ) : Type 0 where
+  pub most : i ≤ 10
+  pub long : length held ≡ 11
+  pub room : length left ≡ 11
+  pub back : feedback ≡ sum (getD held 0 0) c
+  pub places : (k : ℕ) → k < i → getD left k 0 ≡ getD (stepped held c) k 0
+
+pub divided-none : (held : List ℕ) (c feedback : ℕ) (left : List ℕ) → length held ≡ 11 → length left ≡ 11 → feedback ≡ bitXor (getD held 0 0) c
+    → DividedTo held c feedback left 0
+unfolding sum
+divided-none held c feedback left h l e = record { most = omega arith; long = h; room = l; back = e; places = λ k b. absurd (omega arith) }
+
+-- a place is stored
+divided-at : (held : List ℕ) (c feedback : ℕ) (left : List ℕ) (i v : ℕ) → DividedTo held c feedback left i → v ≡ getD (stepped held c) i 0
+    → (k : ℕ) → k < i + 1 → getD (set left i v) k 0 ≡ getD (stepped held c) k 0
+divided-at held c feedback left i v t e =
+    below-more (λ (k : ℕ). getD (set left i v) k 0 ≡ getD (stepped held c) k 0) i
+    (λ k m. getD-set-other left i k v 0 (λ q. omega arith) ∙ t .places k m)
+    (getD-set-same left i v 0 (omega arith) ∙ e)
+
+place-is : (held : List ℕ) (c feedback : ℕ) (i t : ℕ) → length held ≡ 11 → feedback ≡ sum (getD held 0 0) c → t ≡ product feedback (getD below i 0)
+    → sum (getD held (suc i) 0) t ≡ getD (stepped held c) i 0
+unfolding lower
+place-is held c feedback i t h b e =
+    ap (sum (getD held (suc i) 0)) (e ∙ ap (λ (f : ℕ). product f (getD below i 0)) b) ∙ sym (stepped-get held c h i)
+
+pub divided-again : (held : List ℕ) (c feedback : ℕ) (left : List ℕ) (i t : ℕ) → i < 10 → DividedTo held c feedback left i
+    → t ≡ product feedback (getD below i 0) → DividedTo held c feedback (set left i (bitXor (getD held (i + 1) 0) t)) (i + 1)
+unfolding sum
+divided-again held c feedback left i t h d e =
+    record {
+      most = omega arith;
+      long = d .long;
+      room = length-set left i (bitXor (getD held (i + 1) 0) t) ∙ d .room;
+      back = d .back;
+      places = divided-at held c feedback left i (bitXor (getD held (i + 1) 0) t) d
+          (ap (λ (n : ℕ). bitXor (getD held n 0) t) (add-one i) ∙ place-is held c feedback i t (d .long) (d .back) e);
+    }
+
+past-end : (l : List ℕ) → length l ≡ 11 → getD l 11 0 ≡ 0
+past-end l h = List·getD-eq-default l 0 (omega arith)
+
+pub divided-all : (held : List ℕ) (c feedback : ℕ) (left : List ℕ) (i t : ℕ) → 10 ≤ i → DividedTo held c feedback left i
+    → t ≡ product feedback (getD below 10 0) → set left 10 t ≡ stepped held c
+divided-all held c feedback left i t h d e =
+    let j : i ≡ 10 = omega arith in
+    let v : t ≡ getD (stepped held c) 10 0 =
+    sym (Laws.zero-sum t) ∙ ap (λ (z : ℕ). sum z t) (sym (past-end held (d .long))) ∙ place-is held c feedback 10 t (d .long) (d .back) e in
+    let long : length (set left 10 t) ≡ 11 = length-set left 10 t ∙ d .room in
+    ext-getD 0 (set left 10 t) (stepped held c) (long ∙ sym (stepped-long held c (d .long)))
+    (λ k b. divided-at held c feedback left 10 t (subst (DividedTo held c feedback left) j d) v k (omega arith))
+
+-- ---- the remainder, a character at a time
+
+pub remainder-start : (s held : List ℕ) → held ≡ replicate 11 0 → held ≡ remainder (take 0 s)
+remainder-start s held e = e ∙ sym remainder-none
+
+pub remainder-again : (s held left : List ℕ) (i : ℕ) → i < length s → held ≡ remainder (take i s) → left ≡ stepped held (getD s i 0)
+    → left ≡ remainder (take (i + 1) s)
+remainder-again s held left i h e f =
+    f ∙ ap (λ (l : List ℕ). stepped l (getD s i 0)) e ∙ sym (remainder-more (take i s) (getD s i 0))
+    ∙ ap remainder (sym (take-suc s i 0 h)) ∙ ap (λ (n : ℕ). remainder (take n s)) (sym (add-one i))
+
+pub remainder-all : (s held : List ℕ) (i : ℕ) → length s ≤ i → held ≡ remainder (take i s) → held ≡ remainder s
+remainder-all s held i h e = e ∙ ap remainder (take-all i s h)
+
+-- ---- the marks
+
+pub marked-is : (held : List ℕ) → length held ≡ 11
+    → set (set (set held 0 (bitXor (getD held 0 0) 32)) 3 (bitXor (getD (set held 0 (bitXor (getD held 0 0) 32)) 3 0) 8)) 10
+    (bitXor (getD (set (set held 0 (bitXor (getD held 0 0) 32)) 3 (bitXor (getD (set held 0 (bitXor (getD held 0 0) 32)) 3 0) 8)) 10 0) 1)
+    ≡ checksOf held
+unfolding sum
+marked-is held h =
+    let a : ℕ = bitXor (getD held 0 0) 32 in
+    let one : List ℕ = set held 0 a in
+    let b : getD one 3 0 ≡ getD held 3 0 = getD-set-other held 0 3 a 0 (λ q. omega arith) in
+    let two : List ℕ = set one 3 (bitXor (getD one 3 0) 8) in
+    let c : getD two 10 0 ≡ getD held 10 0 =
+    getD-set-other one 3 10 (bitXor (getD one 3 0) 8) 0 (λ q. omega arith) ∙ getD-set-other held 0 10 a 0 (λ q. omega arith) in
+    ap₂ (λ (x y : ℕ). set (set one 3 (bitXor x 8)) 10 (bitXor y 1)) b c ∙ sym (checks-are held h)
+
+-- ---- the information characters, copied and stored
+
+pub information-copied : (t copied : List ℕ) (n : ℕ) → length t ≡ 50 → copied ≡ take (length t) t ++ drop (length t) (replicate 52 0)
+    → set (set copied 50 (n / 64)) 51 (n % 64) ≡ information t n
+unfolding information
+information-copied t copied n h e =
+    ap (λ (l : List ℕ). set (set l 50 (n / 64)) 51 (n % 64))
+    (e ∙ ap₂ (λ (l : List ℕ) (m : ℕ). l ++ drop m (replicate 52 0)) (take-length t) h)
+    ∙ ap (λ (l : List ℕ). set l 51 (n % 64)) (set-at t 0 (0 ∷ []) (n / 64) 50 h)
+    ∙ ap (λ (l : List ℕ). set l 51 (n % 64)) (sym (append-assoc t (n / 64 ∷ []) (0 ∷ [])))
+    ∙ set-at (t ++ n / 64 ∷ []) 0 [] (n % 64) 51 (omega (arith, length-append t (n / 64 ∷ [])))
+    ∙ append-assoc t (n / 64 ∷ []) (n % 64 ∷ [])
+
+-- ---- the output: its first 52 bytes, then the others
+
+pub both-written : (information checks old out part : List ℕ) → length information ≡ 52 → length checks ≡ 11 → length old ≡ 63
+    → out ≡ take (length information) information ++ drop (length information) old
+    → part ≡ take (length checks) checks ++ drop (length checks) (take (length out - 52) (drop 52 out))
+    → take 52 out ++ (part ++ drop (length out - 52) (drop 52 out)) ≡ information ++ checks
+both-written information checks old out part hi hc ho e f =
+    let a : out ≡ information ++ drop 52 old =
+    e ∙ ap₂ (λ (l : List ℕ) (m : ℕ). l ++ drop m old) (take-length information) hi in
+    let b : length (drop 52 out) ≡ 11 =
+    ap (λ (l : List ℕ). length (drop 52 l)) a ∙ ap length (drop-at information (drop 52 old) 52 hi) ∙ length-drop 52 old ∙ ap (λ (n : ℕ). n - 52) ho in
+    let m : length out - 52 ≡ 11 = sym (length-drop 52 out) ∙ b in
+    let p : part ≡ checks =
+    f ∙ ap₂ _++_ (take-length checks) (drop-of-length-le (take (length out - 52) (drop 52 out)) {i = length checks} (omega (arith, length-take (length out - 52) (drop 52 out))))
+    ∙ append-nil checks in
+    ap₂ _++_ (ap (take 52) a ∙ take-at information (drop 52 old) 52 hi)
+    (ap₂ _++_ p (drop-of-length-le (drop 52 out) {i = length out - 52} (omega arith)) ∙ append-nil checks)
+
+-- ---- the ways out of encoding a line
+
+module _ (t : List ℕ) (n : ℕ) (old : List ℕ) where
+  pub text-length : (length t ≡ 50 → ⊥) → Encodes t n old (1 ∷ []) old
+  unfolding Encodes
+  text-length d = (inr (d, refl), (refl, refl))
+
+  pub room-length : length t ≡ 50 → (length old ≡ 63 → ⊥) → Encodes t n old (5 ∷ []) old
+  unfolding Encodes
+  room-length h d = (inl (h, inr (d, refl)), (refl, refl))
+
+  pub text-over : (b : Bool) → length t ≡ 50 → length old ≡ 63 → Tells (Characters t) b → b ≡ false → Encodes t n old (2 ∷ []) old
+  unfolding Encodes
+  text-over b h r s e = (inl (h, inl (r, inr (s .fails e, refl))), (refl, refl))
+
+  pub number-over : (b : Bool) → length t ≡ 50 → length old ≡ 63 → Tells (Characters t) b → b ≡ true → (n ≤ 4095 → ⊥) → Encodes t n old (4 ∷ []) old
+  unfolding Encodes
+  number-over b h r s e o = (inl (h, inl (r, inl (s .holds e, inr (o, refl)))), (refl, refl))
+
+  pub line-written : (b : Bool) (i r k new : List ℕ) → length t ≡ 50 → length old ≡ 63 → Tells (Characters t) b → b ≡ true → n ≤ 4095
+      → i ≡ information t n → r ≡ remainder i → k ≡ checksOf r → new ≡ i ++ k → Encodes t n old (0 ∷ []) new
+  unfolding Encodes encoded
+  line-written b i r k new h o s e m ei er ek en =
+      let same : new ≡ encoded t n = en ∙ ap₂ _++_ ei (ek ∙ ap checksOf (er ∙ ap remainder ei)) in
+      (inl (h, inl (o, inl (s .holds e, inl (m, refl)))), (refl, subst (LineWith t n) (sym same) (encoded-line t n h (s .holds e) m)))
+
+-- ---- the ways out of a step
+
+module _ (r : Register) (c : ℕ) where
+  pub step-full : 52 ≤ r .count → Steps r c (11 ∷ []) r
+  unfolding Steps
+  step-full h = (inr (λ p. omega arith, refl), (refl, refl))
+
+  pub held-over : (b : Bool) → r .count < 52 → Tells (Characters (r .held)) b → b ≡ false → Steps r c (2 ∷ []) r
+  unfolding Steps
+  held-over b h s e = (inl (h, inr (s .fails e, refl)), (refl, refl))
+
+  pub character-over : (b : Bool) → r .count < 52 → Tells (Characters (r .held)) b → b ≡ true → 63 < c → Steps r c (2 ∷ []) r
+  unfolding Steps
+  character-over b h s e o = (inl (h, inl (s .holds e, inr (λ p. omega arith, refl))), (refl, refl))
+
+  pub step-taken : (b : Bool) (left : List ℕ) → r .count < 52 → Tells (Characters (r .held)) b → b ≡ true → c ≤ 63 → left ≡ stepped (r .held) c
+      → Steps r c (0 ∷ []) (record { held = left; count = r .count + 1 })
+  unfolding Steps
+  step-taken b left h s e m el =
+      (inl (h, inl (s .holds e, inl (m, refl))), (refl, ap (λ (l : List ℕ). record { held = l; count = r .count + 1 }) el))
+
+-- ---- the ways out of asking for the checks
+
+module _ (r : Register) where
+  pub asked-over : 52 < r .count → Checks r (11 ∷ replicate 11 0)
+  unfolding Checks
+  asked-over h = (inr (λ p. omega arith, refl), (refl, refl))
+
+  pub asked-early : r .count < 52 → Checks r (12 ∷ replicate 11 0)
+  unfolding Checks
+  asked-early h = (inl (omega arith, inr (λ p. omega arith, refl)), (refl, refl))
+
+  pub asked-held-over : (b : Bool) → r .count ≤ 52 → 52 ≤ r .count → Tells (Characters (r .held)) b → b ≡ false → Checks r (2 ∷ replicate 11 0)
+  unfolding Checks
+  asked-held-over b h l s e = (inl (h, inl (l, inr (s .fails e, refl))), (refl, refl))
+
+  pub checks-given : (b : Bool) (k : List ℕ) → r .count ≤ 52 → 52 ≤ r .count → Tells (Characters (r .held)) b → b ≡ true → k ≡ checksOf (r .held)
+      → Checks r (0 ∷ k)
+  unfolding Checks
+  checks-given b k h l s e ek = (inl (h, inl (l, inl (s .holds e, refl))), ek)

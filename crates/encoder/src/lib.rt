@@ -1,0 +1,209 @@
+// The encoder: a line at once, and the recorder's register, which takes one character at a time.
+ghost use mathlib.Core.Path.{_≡_};
+ghost use mathlib.Core.List.{_++_};
+ghost use Prim.Native.Nat.{_≤_};
+ghost use lib.ListN.{length};
+ghost use Rattle.encoder.specs.Division.{remainder};
+ghost use Rattle.encoder.specs.Register.{empty, stepped, checksOf};
+ghost use Rattle.encoder.specs.Promises.{encodingNumbers, Encodes, stepNumbers, Steps, checkNumbers, Checks};
+ghost use Rattle.encoder.specs.Inside.{information};
+use code::in_range;
+use field::times;
+use refusal::Refusal;
+
+// The generator's coefficients below the highest, which is 1.
+const LOWER: [u8; 11] = [20, 61, 3, 28, 23, 23, 28, 3, 61, 20, 1];
+
+// The answer of encoding a line at once.
+pub enum LineEncoding {
+    Written,
+    Refused(Refusal),
+}
+
+// The recorder's encoder: eleven characters, highest degree first, and how many were taken.
+pub struct Register {
+    pub held: [u8; 11],
+    pub count: u8,
+}
+
+// The answer of a step.
+pub enum StepAnswer {
+    Taken,
+    Refused(Refusal),
+}
+
+// The register after a step, and the answer.
+pub struct Stepped {
+    pub register: Register,
+    pub answer: StepAnswer,
+}
+
+// The answer of asking for the checks.
+pub enum CheckAnswer {
+    Given,
+    Refused(Refusal),
+}
+
+// The eleven checks, zeros in a refusal, and the answer.
+pub struct Checked {
+    pub checks: [u8; 11],
+    pub answer: CheckAnswer,
+}
+
+// One step of the division.
+fn divided(held: [u8; 11], c: u8) -> [u8; 11]
+    ensures { λ r. ⌜ r ≡ stepped held c ⌝ }
+{
+    let feedback = held[0] ^ c;
+    let mut left = [0u8; 11];
+    let mut i: usize = 0;
+    while i < 10 {
+        left[i] = held[i + 1] ^ times(feedback, LOWER[i]);
+        i += 1;
+    }
+    left[10] = times(feedback, LOWER[10]);
+    left
+}
+
+// What the division leaves of x^11 times the characters' polynomial.
+fn remainder_of(s: &[u8]) -> [u8; 11]
+    ensures { λ r. ⌜ r ≡ remainder (now (s .entry)) ⌝ }
+{
+    let mut held = [0u8; 11];
+    let mut i: usize = 0;
+    while i < s.len() {
+        let left = divided(held, s[i]);
+        held = left;
+        i += 1;
+    }
+    held
+}
+
+// What is held, with the marks of addresses 52, 55 and 62.
+fn marked(held: [u8; 11]) -> [u8; 11]
+    ensures { λ r. ⌜ r ≡ checksOf held ⌝ }
+{
+    let mut checks = held;
+    checks[0] = checks[0] ^ 32;
+    checks[3] = checks[3] ^ 8;
+    checks[10] = checks[10] ^ 1;
+    checks
+}
+
+// The characters of addresses 0 to 51: the text, the high six bits of the number, the low six.
+fn information_of(text: &[u8], number: u16) -> [u8; 52]
+    requires { ⌜ length (now text) ≡ 50 ⌝ }
+    requires { ⌜ number ≤ 4095 ⌝ }
+    ensures { λ r. ⌜ r ≡ information (now (text .entry)) number ⌝ }
+{
+    let mut characters = [0u8; 52];
+    bytes::copy(text, &mut characters);
+    characters[50] = (number / 64) as u8;
+    characters[51] = (number % 64) as u8;
+    characters
+}
+
+// Writes a whole line.
+fn write_line(information: [u8; 52], checks: [u8; 11], output: &mut [u8])
+    requires { ⌜ length (now output) ≡ 63 ⌝ }
+    ensures { λ _. ⌜ now (output .exit) ≡ information ++ checks ⌝ }
+{
+    bytes::copy(&information, output);
+    bytes::copy(&checks, &mut output[52..]);
+}
+
+// Encodes a line at once: writes the one line with this text and number.
+pub fn encode_line(text: &[u8], number: u16, output: &mut [u8]) -> LineEncoding
+    ensures { λ r. ⌜ Encodes (now (text .entry)) number (now (output .entry)) (encodingNumbers r) (now (output .exit)) ⌝ }
+{
+    if text.len() != 50 {
+        return LineEncoding::Refused(Refusal::InputLength);
+    }
+    if output.len() != 63 {
+        return LineEncoding::Refused(Refusal::OutputLength);
+    }
+    if !in_range(text) {
+        return LineEncoding::Refused(Refusal::ValueOver);
+    }
+    if number > 4095 {
+        return LineEncoding::Refused(Refusal::NumberOver);
+    }
+    let information = information_of(text, number);
+    let checks = marked(remainder_of(&information));
+    write_line(information, checks, output);
+    LineEncoding::Written
+}
+
+impl Register {
+    // The register that has taken no character.
+    pub fn new() -> Self
+        ensures { λ r. ⌜ r ≡ empty ⌝ }
+    {
+        Register {
+            held: [0; 11],
+            count: 0,
+        }
+    }
+
+    // Takes one more character.
+    pub fn step(mut self, c: u8) -> Stepped
+        ensures { λ r. ⌜ Steps self c (stepNumbers (r .answer)) (r .register) ⌝ }
+    {
+        if self.count >= 52 {
+            return Stepped {
+                register: self,
+                answer: StepAnswer::Refused(Refusal::RegisterFull),
+            };
+        }
+        let held = self.held;
+        if !in_range(&held) {
+            return Stepped {
+                register: self,
+                answer: StepAnswer::Refused(Refusal::ValueOver),
+            };
+        }
+        if c > 63 {
+            return Stepped {
+                register: self,
+                answer: StepAnswer::Refused(Refusal::ValueOver),
+            };
+        }
+        let left = divided(held, c);
+        self.held = left;
+        self.count = self.count + 1;
+        Stepped {
+            register: self,
+            answer: StepAnswer::Taken,
+        }
+    }
+
+    // The checks of a register that has taken 52 characters; the register stays the caller's.
+    pub fn checks(self) -> Checked
+        ensures { λ r. ⌜ Checks self (checkNumbers r) ⌝ }
+    {
+        if self.count > 52 {
+            return Checked {
+                checks: [0; 11],
+                answer: CheckAnswer::Refused(Refusal::RegisterFull),
+            };
+        }
+        if self.count < 52 {
+            return Checked {
+                checks: [0; 11],
+                answer: CheckAnswer::Refused(Refusal::RegisterShort),
+            };
+        }
+        let held = self.held;
+        if !in_range(&held) {
+            return Checked {
+                checks: [0; 11],
+                answer: CheckAnswer::Refused(Refusal::ValueOver),
+            };
+        }
+        let checks = marked(held);
+        Checked {
+            checks: checks,
+            answer: CheckAnswer::Given,
+        }
+    }
+}

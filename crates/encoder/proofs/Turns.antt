@@ -13,7 +13,7 @@ use lib.Seq.{ext-getD, getD-set-same, getD-set-other, take-suc, take-all, take-l
 use Rattle.field.specs.Field.{sum, product}
 use Rattle.field.proofs.Laws
 use Rattle.code.specs.Word.{Characters}
-use Rattle.code.specs.Promises.{Tells}
+use Rattle.refusal.specs.Promise.{Tells}
 use Rattle.encoder.specs.declared.Register.{Register}
 use Rattle.encoder.specs.Division.{remainder}
 use Rattle.encoder.specs.Register.{stepped, checksOf}

@@ -1,0 +1,2 @@
+// The bench sheet's rows that are run.
+fn main() {}

@@ -7,12 +7,13 @@ use Prim.Native.Nat.{ℕ, _+_, _-_, _%_, _<_, _≤_}
 use native.Mathlib.Omega.{arith}
 use lib.ListN.{length, replicate, take}
 use lib.Seq.{ext-getD}
+use Rattle.refusal.proofs.Theorems.{one-verdict}
 use Rattle.numbers.proofs.Cases.{le-or-lt}
 use Rattle.field.specs.Field.{product, α, power, Log, Quotient}
 use Rattle.field.proofs.Laws
 use Rattle.polynomial.specs.Sums.{weight}
 use Rattle.code.specs.Word.{powerSum, Clean, marks, Line, text, number, distance, turned, reversed}
-use Rattle.code.specs.Promises.{Tells, TellsLine}
+use Rattle.code.specs.Promises.{TellsLine}
 use Rattle.code.specs.Inside.{PowerSums}
 use Rattle.code.proofs.Sums.{powerSum-lt}
 use Rattle.code.proofs.Distances
@@ -100,13 +101,7 @@ turned-clean = Turning.clean-turned
 pub reversed-clean : (s : ℕ) (w : List ℕ) → Clean w → Clean (reversed s w)
 reversed-clean = Turning.clean-reversed
 
--- a test tells one thing, and there is one list of sums
-pub one-verdict : (P : Type 0) (b c : Bool) → Tells P b → Tells P c → b ≡ c
-one-verdict P true true s t = refl
-one-verdict P true false s t = absurd (t .fails refl (s .holds refl))
-one-verdict P false true s t = absurd (s .fails refl (t .holds refl))
-one-verdict P false false s t = refl
-
+-- the test for a line tells one thing, and there is one list of sums
 pub one-line-verdict : (w : List ℕ) (b c : Bool) → TellsLine w b → TellsLine w c → b ≡ c
 one-line-verdict w = one-verdict (Line w)
 

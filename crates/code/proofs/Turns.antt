@@ -9,30 +9,15 @@ use native.Mathlib.Omega.{arith}
 use lib.ListN.{length, getD, set, length-set, List·getD-eq-default}
 use lib.Seq.{getD-set-same, getD-set-other, ext-getD}
 use borrow.Author.Count.{below-none, below-more}
+use Rattle.refusal.specs.Promise.{Tells}
+use Rattle.refusal.proofs.Laws.{tells-yes, tells-no}
 use Rattle.field.specs.Field.{sum, timesX, shifted, product, α, power}
 use Rattle.code.specs.Word.{Characters, powerSum, marks, Line}
-use Rattle.code.specs.Promises.{Tells}
 use Rattle.code.specs.Inside.{PowerSums, wordAt}
 use Rattle.code.proofs.Words.{characters-below}
 use Rattle.code.proofs.Sums.{powerSum-at}
 use Rattle.code.proofs.Horner.{horner, horner-word}
 use Rattle.code.proofs.Lines.{line-long, line-characters, line-sums, sums-line}
-
--- ---- tests
-
-true-not-false : true ≡ false → ⊥
-true-not-false e = subst chosen e tt
-  where
-    chosen : Bool → Type 0
-    chosen true = Unit {0}
-    chosen false = ⊥
-
-module _ {P : Type 0} where
-  pub tells-true : P → Tells P true
-  tells-true p = record { holds = λ e. p; fails = λ e. absurd (true-not-false e) }
-
-  pub tells-false : (P → ⊥) → Tells P false
-  tells-false f = record { holds = λ e. absurd (true-not-false (sym e)); fails = λ e. f }
 
 -- ---- a character
 
@@ -52,10 +37,10 @@ pub range-again : (w : List ℕ) (a : ℕ) → InRange w a → a < length w → 
 range-again w a r h l = record { most = omega arith; passed = below-more (λ b. getD w b 0 < 64) a (r .passed) (omega arith) }
 
 pub range-all : (w : List ℕ) (a : ℕ) → InRange w a → length w ≤ a → Tells (Characters w) true
-range-all w a r h = tells-true (characters-below w a h (r .passed))
+range-all w a r h = tells-yes (characters-below w a h (r .passed))
 
 pub range-over : (w : List ℕ) (a : ℕ) → 63 < getD w a 0 → Tells (Characters w) false
-range-over w a h = tells-false (λ r. let l = r a in omega arith)
+range-over w a h = tells-no (λ r. let l = r a in omega arith)
 
 -- ---- the value at x, by Horner's rule
 
@@ -130,18 +115,18 @@ same-again u v k s h e =
 
 pub same-all : (u v : List ℕ) (k : ℕ) → SameTo u v k → 11 ≤ k → Tells (u ≡ v) true
 same-all u v k s h =
-    tells-true (ext-getD 0 u v (s .first-long ∙ sym (s .second-long)) (λ m b. s .passed m (let l = s .first-long in omega arith)))
+    tells-yes (ext-getD 0 u v (s .first-long ∙ sym (s .second-long)) (λ m b. s .passed m (let l = s .first-long in omega arith)))
 
 pub same-not : (u v : List ℕ) (k : ℕ) → (getD u k 0 ≡ getD v k 0 → ⊥) → Tells (u ≡ v) false
-same-not u v k d = tells-false (λ e. d (ap (λ (l : List ℕ). getD l k 0) e))
+same-not u v k d = tells-no (λ e. d (ap (λ (l : List ℕ). getD l k 0) e))
 
 -- ---- whether it is a line
 
 pub wrong-length : (w : List ℕ) → (length w ≡ 63 → ⊥) → Tells (Line w) false
-wrong-length w d = tells-false (λ l. d (line-long w l))
+wrong-length w d = tells-no (λ l. d (line-long w l))
 
 pub wrong-characters : (w : List ℕ) (b : Bool) → Tells (Characters w) b → b ≡ false → Tells (Line w) false
-wrong-characters w b t e = tells-false (λ l. t .fails e (line-characters w l))
+wrong-characters w b t e = tells-no (λ l. t .fails e (line-characters w l))
 
 -- a line has the sums of the marks, and what has them is a line
 pub line-by-sums : (w u v : List ℕ) (b r : Bool) → length w ≡ 63 → Tells (Characters w) b → b ≡ true → PowerSums w u → PowerSums marks v

@@ -2,7 +2,8 @@
 ghost use mathlib.Core.Path.{_≡_};
 ghost use lib.ListN.{getD};
 ghost use Rattle.code.specs.Word.{Characters, marks};
-ghost use Rattle.code.specs.Promises.{Tells, TellsLine};
+ghost use Rattle.refusal.specs.Promise.{Tells};
+ghost use Rattle.code.specs.Promises.{TellsLine};
 ghost use Rattle.code.specs.Inside.{PowerSums, wordAt};
 
 const ALPHA: u8 = 2;

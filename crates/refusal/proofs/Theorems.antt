@@ -1,9 +1,10 @@
 -- A promise allows one result: one answer, and, where what a success gives is determined, one set of fields and one output.
 use mathlib.Core.Path.{_≡_, refl, sym, _∙_, ap₂}
+use mathlib.Core.Bool.{Bool, true, false}
 use mathlib.Core.List.{List, [], _∷_}
 use Prim.Native.Nat.{ℕ, zero, suc}
 use native.Mathlib.Omega.{arith}
-use Rattle.refusal.specs.Promise.{Test, Answer, Leaves, Promise, Replies}
+use Rattle.refusal.specs.Promise.{Test, Answer, Leaves, Promise, Replies, Tells}
 use Rattle.refusal.proofs.Laws.{one-answer, Passed, passed}
 
 -- what a success gives is determined, where every test holds
@@ -36,3 +37,10 @@ module _ {O : Type 0} (ts : List Test) (Stated : List ℕ → O → Type 0) (k :
 pub one-reply : (ts : List Test) (Stated : List ℕ → Type 0) (k : ℕ) → (Passed ts → (f g : List ℕ) → Stated f → Stated g → f ≡ g)
     → (a b : List ℕ) → Replies ts Stated k a → Replies ts Stated k b → a ≡ b
 one-reply ts Stated k one a b s t = one-result ts (λ fields _. Stated fields) k (λ p f g x y u v. (one p f g u v, refl)) tt a b tt tt s t .0
+
+-- a test tells one thing
+pub one-verdict : (P : Type 0) (b c : Bool) → Tells P b → Tells P c → b ≡ c
+one-verdict P true true s t = refl
+one-verdict P true false s t = absurd (t .fails refl (s .holds refl))
+one-verdict P false true s t = absurd (s .fails refl (t .holds refl))
+one-verdict P false false s t = refl

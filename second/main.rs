@@ -7,7 +7,9 @@
 //! WHAT names a program crate: its files `stdin` and `stdout` are written anew. `git diff` then shows what differs.
 
 mod block;
+mod code;
 mod field;
+mod line;
 mod random;
 
 use std::fs;
@@ -28,9 +30,13 @@ fn main() {
             let (stdin, stdout) = block::cases();
             store(&what, Some(&stdin), stdout.as_bytes());
         }
+        "line_cases" => {
+            let (stdin, stdout) = line::cases();
+            store(&what, Some(&stdin), stdout.as_bytes());
+        }
         "field_table" => store(&what, None, field::table().as_bytes()),
         _ => {
-            eprintln!("second WHAT, from the project's root. WHAT: block_cases field_table");
+            eprintln!("second WHAT, from the project's root. WHAT: block_cases field_table line_cases");
             std::process::exit(2);
         }
     }

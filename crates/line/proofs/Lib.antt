@@ -1,1 +1,3 @@
--- The laws of line reading and its theorems.
+-- The ways out of line reading, and its theorems.
+pub mod Reading
+pub mod Theorems

@@ -1,7 +1,7 @@
 // Reading a line: the line within the radius, or a refusal exactly when there is none.
 ghost use mathlib.Core.Path.{_≡_};
 ghost use Prim.Native.Nat.{_+_, _*_, _%_};
-ghost use lib.ListN.{getD};
+ghost use lib.ListN.{length, getD};
 ghost use Rattle.refusal.specs.Promise.{Tells};
 ghost use Rattle.code.specs.Word.{number};
 ghost use Rattle.line.specs.Promises.{readingNumbers, Possible, Reads};
@@ -48,7 +48,7 @@ pub fn read_line(word: &[u8], radius: u8, wanted: Wanted, output: &mut [u8]) -> 
     if !is_wanted(wanted, number) {
         return LineReading::Refused(Refusal::OtherNumber);
     }
-    bytes::copy(&line, output);
+    put(line, output);
     LineReading::Line {
         number: number,
         distance: found.weight,
@@ -67,6 +67,14 @@ pub fn number_of(line: [u8; 63]) -> u16
     ensures { λ r. ⌜ r ≡ getD line 50 0 % 64 * 64 + getD line 51 0 % 64 ⌝ }
 {
     (line[50] % 64) as u16 * 64 + (line[51] % 64) as u16
+}
+
+// Writes a line over an output of its length.
+fn put(line: [u8; 63], output: &mut [u8])
+    requires { ⌜ length (now output) ≡ 63 ⌝ }
+    ensures { λ _. ⌜ now (output .exit) ≡ line ⌝ }
+{
+    bytes::copy(&line, output);
 }
 
 // Whether the number wanted can be that of a line.

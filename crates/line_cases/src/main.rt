@@ -77,20 +77,27 @@ fn run_case(word: &[u8], radius: u8, wanted: Wanted, room: usize)
     read_case(word, radius, wanted, &mut output[..room]);
 }
 
+// Fills the word of a case from the input and runs the case, or tells that the input ends first.
+fn filled_case(word: &mut [u8], radius: u8, wanted: Wanted, room: usize) -> bool
+    requires { ⌜ room ≤ 255 ⌝ }
+{
+    if io::read_full(STDIN_FILENO, word) < word.len() {
+        return false;
+    }
+    run_case(word, radius, wanted, room);
+    true
+}
+
 // Takes the next case from the input and runs it, or tells that the input ends first.
 fn next_case() -> bool {
     let mut head = [0u8; 6];
-    if io::read_full(STDIN_FILENO, &mut head) != 6 {
+    if io::read_full(STDIN_FILENO, &mut head) < 6 {
         return false;
     }
-    let mut space = untouched();
+    let mut word = untouched();
     let n = wide(head[0]);
-    if io::read_full(STDIN_FILENO, &mut space[..n]) != n {
-        return false;
-    }
     let wanted = wanted_number(head[2], head[3], head[4]);
-    run_case(&space[..n], head[1], wanted, wide(head[5]));
-    true
+    filled_case(&mut word[..n], head[1], wanted, wide(head[5]))
 }
 
 // Runs so many cases, or as many as there are.

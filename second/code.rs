@@ -137,6 +137,24 @@ impl Code {
         (length, now)
     }
 
+    /// The sums, these first, that a recurrence gives.
+    pub fn continued(&self, first: &[u8], recurrence: &[u8]) -> Sums {
+        let mut sums = [0; 11];
+        sums[..first.len()].copy_from_slice(first);
+        for n in first.len()..11 {
+            sums[n] = (1..recurrence.len()).fold(0, |sum, i| sum ^ self.product(recurrence[i], sums[n - i]));
+        }
+        sums
+    }
+
+    /// The recurrence that has these addresses for its roots: the product of (1 + Xx).
+    pub fn with_roots(&self, addresses: &[usize]) -> Vec<u8> {
+        addresses.iter().fold(vec![1], |p, &a| {
+            let shifted: Vec<u8> = [0].into_iter().chain(p.iter().map(|&c| self.product(self.places[a], c))).collect();
+            p.iter().chain(&[0]).zip(&shifted).map(|(c, d)| c ^ d).collect()
+        })
+    }
+
     /// The addresses whose places are roots of a recurrence, tried one by one.
     pub fn roots(&self, recurrence: &[u8]) -> Vec<usize> {
         (0..63).filter(|&a| self.value(recurrence, self.inverses[self.places[a] as usize]) == 0).collect()
@@ -204,7 +222,8 @@ impl Code {
                         if s == [0; 7] {
                             return Some([a, b, c, d, d]);
                         }
-                        if let Some(e) = self.alone(&s) {
+                        // nothing is left at the four, so sums that grow by one of their places are those of no error
+                        if let Some(e) = self.alone(&s).filter(|e| ![a, b, c, d].contains(e)) {
                             return Some([a, b, c, d, e]);
                         }
                     }

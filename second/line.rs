@@ -147,12 +147,12 @@ impl Cases {
     fn errors_at_every_radius(&mut self) {
         for errors in 0..=8 {
             for radius in 0..=5 {
-                for _ in 0..10 {
+                for _ in 0..if errors <= radius { 14 } else { 7 } {
                     let line = self.line();
                     let right = number(&line);
                     let another = (right + 1 + self.random.below(4095) as u16) % 4096;
                     for wanted in [None, Some(right), Some(another)] {
-                        let errors = self.errors(errors);
+                        let errors = self.errors(errors as usize);
                         self.near(&line, &errors, radius, wanted);
                     }
                 }
@@ -239,6 +239,23 @@ impl Cases {
                     let word = with_errors(&self.line(), &self.code.solved(&eleven, sums));
                     self.read(&with_errors(&word, &errors), 5, None);
                 }
+            }
+        }
+    }
+
+    /// Words whose sums follow a recurrence of 1 to 5 terms: few have all its roots among the places, and some have one root twice.
+    fn recurrences(&mut self) {
+        for length in 1..=5 {
+            for i in 0..18 {
+                let mut roots = random_addresses(&mut self.random, length);
+                roots[0] = roots[length - 1];
+                let any = [vec![1], self.random.bytes(length, 64)].concat();
+                let recurrence = if i % 3 == 0 { self.code.with_roots(&roots) } else { any };
+                let sums = self.code.continued(&self.random.bytes(length, 64), &recurrence);
+                assert!(self.code.recurrence(&sums).0 <= length);
+                let eleven = random_addresses(&mut self.random, 11);
+                let word = with_errors(&self.line(), &self.code.solved(&eleven, sums));
+                self.read(&word, 5, None);
             }
         }
     }
@@ -373,6 +390,7 @@ pub fn cases() -> (Vec<u8>, String) {
         Cases::equal_errors,
         Cases::vanishing_sums,
         Cases::one_other_sum,
+        Cases::recurrences,
         Cases::between_two_lines,
         Cases::marks_and_constants,
         Cases::wanted_numbers,

@@ -11,6 +11,7 @@ mod code;
 mod field;
 mod line;
 mod random;
+mod ring;
 
 use std::fs;
 
@@ -34,9 +35,13 @@ fn main() {
             let (stdin, stdout) = line::cases();
             store(&what, Some(&stdin), stdout.as_bytes());
         }
+        "ring_cases" => {
+            let (stdin, stdout) = ring::cases();
+            store(&what, Some(&stdin), stdout.as_bytes());
+        }
         "field_table" => store(&what, None, field::table().as_bytes()),
         _ => {
-            eprintln!("second WHAT, from the project's root. WHAT: block_cases field_table line_cases");
+            eprintln!("second WHAT, from the project's root. WHAT: block_cases field_table line_cases ring_cases");
             std::process::exit(2);
         }
     }

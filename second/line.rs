@@ -227,17 +227,17 @@ impl Cases {
         }
     }
 
-    /// Words whose sums are those of 0 to 5 wrong characters but for one sum.
+    /// Words whose sums are those of 0 to 5 wrong characters but for one sum, at the radius that would just do and at the largest.
     fn one_other_sum(&mut self) {
         for k in 0..11 {
             for count in 0..=5 {
-                for _ in 0..if count == 5 { 5 } else { 2 } {
+                for radius in [count as u8, 5] {
                     let mut sums = [0; 11];
                     sums[k] = 1 + self.random.below(63) as u8;
                     let eleven = random_addresses(&mut self.random, 11);
                     let errors = self.errors(count);
                     let word = with_errors(&self.line(), &self.code.solved(&eleven, sums));
-                    self.read(&with_errors(&word, &errors), 5, None);
+                    self.read(&with_errors(&word, &errors), radius, None);
                 }
             }
         }

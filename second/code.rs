@@ -1,7 +1,7 @@
 //! Words and lines by matrices: sums by the check matrix, lines by elimination, the nearest line by the shortest recurrence of the sums.
 //!
-//! The errors are found as Berlekamp, Massey and Forney do it, and `trial` finds them a second time with no algebra behind it but 001's rule for one
-//! wrong character: it tries every four addresses.
+//! The errors are found as Berlekamp, Massey and Forney do it. `trial` finds them a second time, by trying every four addresses: what stands there
+//! is taken out of the sums, and 001's rule for one wrong character gives the fifth address.
 
 use crate::field;
 use std::array::from_fn;

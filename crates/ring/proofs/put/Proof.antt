@@ -1,0 +1,22 @@
+use borrow.Author.Needs.{needs}
+use Rattle.line.proofs.Reading.{put-whole}
+use Rattle.ring.proofs.put.Statement.{statement}
+use Rattle.ring.proofs.put.Tie as tie
+use Rattle.ring.proofs.put.Reads as reads
+use Rattle.ring.proofs.put.Lts as lts
+use Rattle.bytes.proofs.copy.Reads as copy-reads
+
+slice-aggregate-copy : tie.Need-slice-aggregate-copy
+slice-aggregate-copy c = search needs
+
+copy-requires : tie.Need-copy-requires
+copy-requires c κs = search needs
+
+same-length : tie.Need-same-length
+same-length c = search needs
+
+returns : tie.Need-returns
+returns c = search (put-whole, needs)
+
+pub put-spec : {M : Type 1} → statement M
+put-spec = tie.close (tie.spec slice-aggregate-copy copy-requires same-length returns)

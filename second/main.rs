@@ -7,9 +7,12 @@
 //! WHAT names a program crate: its files `stdin` and `stdout` are written anew. `git diff` then shows what differs.
 
 mod block;
+mod code;
 mod encoder;
 mod field;
+mod line;
 mod random;
+mod ring;
 
 use std::fs;
 
@@ -33,9 +36,17 @@ fn main() {
             let (stdin, stdout) = encoder::cases();
             store(&what, Some(&stdin), stdout.as_bytes());
         }
+        "line_cases" => {
+            let (stdin, stdout) = line::cases();
+            store(&what, Some(&stdin), stdout.as_bytes());
+        }
+        "ring_cases" => {
+            let (stdin, stdout) = ring::cases();
+            store(&what, Some(&stdin), stdout.as_bytes());
+        }
         "field_table" => store(&what, None, field::table().as_bytes()),
         _ => {
-            eprintln!("second WHAT, from the project's root. WHAT: block_cases encoder_cases field_table");
+            eprintln!("second WHAT, from the project's root. WHAT: block_cases encoder_cases field_table line_cases ring_cases");
             std::process::exit(2);
         }
     }

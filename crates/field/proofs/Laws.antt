@@ -8,7 +8,6 @@ use native.Mathlib.Numerals.{add-one}
 use lib.Bits.{bitXor, xor-lt, xor-self, xor-comm, xor-zero-r, xor-mod, xor-shr}
 use lib.Pow.{field, mod-mod-pow}
 use lib.Dec.{T, T-not, eqb, eqb→eq, ltb, ltb→lt}
-
 use Rattle.numbers.proofs.Cases.{pos-of-not-zero, not-zero-of-pos, bit-cases}
 use Rattle.numbers.proofs.Range.{both, both-left, both-right, each, each-at, eq→eqb}
 use Rattle.numbers.proofs.Xor.{xor-assoc, xor-double}
@@ -300,11 +299,13 @@ has-log (suc a) p h =
     let n : ℕ = steps 63 1 (suc a) in
     let t : T (both (ltb n 63) (eqb (walk n 1) (suc a))) =
     each-at 63 (λ a. both (ltb (steps 63 1 (suc a)) 63) (eqb (walk (steps 63 1 (suc a)) 1) (suc a))) log-test a (omega arith)
-    in
-    (n, record {
-      below = ltb→lt n 63 (both-left (ltb n 63) (eqb (walk n 1) (suc a)) t);
-      is = α-walk n ∙ eqb→eq (walk n 1) (suc a) (both-right (ltb n 63) (eqb (walk n 1) (suc a)) t);
-    })
+    in (
+      n,
+      record {
+        below = ltb→lt n 63 (both-left (ltb n 63) (eqb (walk n 1) (suc a)) t);
+        is = α-walk n ∙ eqb→eq (walk n 1) (suc a) (both-right (ltb n 63) (eqb (walk n 1) (suc a)) t);
+      },
+    )
 
 -- exponents of α count modulo 63
 pub power-mod : (n : ℕ) → power α (n % 63) ≡ power α n

@@ -124,11 +124,26 @@ module _ (w : List ℕ) (t : ℕ) (wanted : Wanted) (old : List ℕ) where
 
               pub the-line : (v : Bool) → Tells (IsWanted wanted n) v → v ≡ true → (new : List ℕ) → new ≡ m .word → Reads w t wanted old (0 ∷ n ∷ m .weight ∷ []) new
               unfolding Reads
-              the-line v tells q new output =
-                  (inl (long, inl (room, inl (range .holds in-range, inl (small, inl (possible .holds can,
-                  inl ((m .word, within-here), inl ((m .word, within-here, carries-of wanted (m .word) n number-here (tells .holds q)), refl))))))),
-                  subst (λ (l : List ℕ). Within t w l × ((n ∷ m .weight ∷ []) ≡ number l ∷ distance w l ∷ [])) (sym output)
-                  (within-here, ap₂ (λ (x y : ℕ). x ∷ y ∷ []) number-here (nearest .apart here)))
+              the-line v tells q new output = (
+                inl (
+                  long,
+                  inl (
+                    room,
+                    inl (
+                      range .holds in-range,
+                      inl (
+                        small,
+                        inl (
+                          possible .holds can,
+                          inl ((m .word, within-here), inl ((m .word, within-here, carries-of wanted (m .word) n number-here (tells .holds q)), refl)),
+                        ),
+                      ),
+                    ),
+                  ),
+                ),
+                subst (λ (l : List ℕ). Within t w l × ((n ∷ m .weight ∷ []) ≡ number l ∷ distance w l ∷ [])) (sym output)
+                    (within-here, ap₂ (λ (x y : ℕ). x ∷ y ∷ []) number-here (nearest .apart here)),
+              )
 
 -- ---- the output
 

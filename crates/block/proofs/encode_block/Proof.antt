@@ -11,23 +11,11 @@ returns c = few-data _ _ (omega arith)
 returns-2 : tie.Need-returns-2
 returns-2 c = many-data _ _ (omega arith)
 
-add-if3 : tie.Need-add-if3
-add-if3 c = search needs
-
 returns-3 : tie.Need-returns-3
 returns-3 c = other-room _ _ (omega arith) (omega arith) (search needs)
 
-all-sevens-requires : tie.Need-all-sevens-requires
-all-sevens-requires c κs = search needs
-
 returns-4 : tie.Need-returns-4
 returns-4 c = search (over, needs)
-
-put-block-requires : tie.Need-put-block-requires
-put-block-requires c κs = search needs
-
-same-length : tie.Need-same-length
-same-length c = search needs
 
 returns-5 : tie.Need-returns-5
 returns-5 c = search (written, needs)
@@ -38,10 +26,10 @@ encode-block-spec =
     (tie.spec
     returns
     returns-2
-    add-if3
+    (λ c. search needs)
     returns-3
-    all-sevens-requires
+    (λ c κs. search needs)
     returns-4
-    put-block-requires
-    same-length
+    (λ c κs. search needs)
+    (λ c. search needs)
     returns-5)

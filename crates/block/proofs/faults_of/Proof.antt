@@ -21,21 +21,6 @@ loop-holds : tie.Need-loop-holds Inv-loop μ-loop
 unfolding wanted
 loop-holds c = search (counted-none, needs)
 
-shared-slice-read-x : tie.Need-shared-slice-read-x Inv-loop μ-loop
-shared-slice-read-x c = search needs
-
-ones-of-requires : tie.Need-ones-of-requires Inv-loop μ-loop
-ones-of-requires c κs = search needs
-
-add-odd : tie.Need-add-odd Inv-loop μ-loop
-add-odd c = search needs
-
-add-i : tie.Need-add-i Inv-loop μ-loop
-add-i c = search needs
-
-loop-less : tie.Need-loop-less Inv-loop μ-loop
-loop-less c = search needs
-
 loop-again : tie.Need-loop-again Inv-loop μ-loop
 loop-again c = ⊎-elim (λ w. search (counted-odd, needs)) (λ w. search (counted-even, needs)) (c .if1 .came)
 
@@ -47,4 +32,4 @@ returns c =
 
 pub faults-of-spec : {M : Type 1} → statement M
 faults-of-spec =
-    tie.close (tie.spec Inv-loop μ-loop loop-holds shared-slice-read-x ones-of-requires add-odd add-i loop-less loop-again returns)
+    tie.close (tie.spec Inv-loop μ-loop loop-holds (λ c. search needs) (λ c κs. search needs) (λ c. search needs) (λ c. search needs) (λ c. search needs) loop-again returns)

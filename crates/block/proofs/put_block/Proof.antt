@@ -19,26 +19,8 @@ loop-holds : tie.Need-loop-holds Inv-loop μ-loop
 unfolding wanted
 loop-holds c = search (put-none, needs)
 
-shared-slice-read-checked-row : tie.Need-shared-slice-read-checked-row Inv-loop μ-loop
-shared-slice-read-checked-row c = search needs
-
-checked-row-requires : tie.Need-checked-row-requires Inv-loop μ-loop
-checked-row-requires c κs = search needs
-
-slice-write-output : tie.Need-slice-write-output Inv-loop μ-loop
-slice-write-output c = search needs
-
-add-i : tie.Need-add-i Inv-loop μ-loop
-add-i c = search needs
-
-loop-less : tie.Need-loop-less Inv-loop μ-loop
-loop-less c = search needs
-
 loop-again : tie.Need-loop-again Inv-loop μ-loop
 loop-again c = search (put-more, needs)
-
-slice-write-output-2 : tie.Need-slice-write-output-2 Inv-loop μ-loop
-slice-write-output-2 c = search needs
 
 same-length : tie.Need-same-length Inv-loop μ-loop
 same-length c = simp length-set (c .before .loop .inv .long ∙ sym (c .before .loop .inv .room))
@@ -49,4 +31,4 @@ returns c = search (put-all, needs)
 pub put-block-spec : {M : Type 1} → statement M
 put-block-spec =
     tie.close
-    (tie.spec Inv-loop μ-loop loop-holds shared-slice-read-checked-row checked-row-requires slice-write-output add-i loop-less loop-again slice-write-output-2 same-length returns)
+    (tie.spec Inv-loop μ-loop loop-holds (λ c. search needs) (λ c κs. search needs) (λ c. search needs) (λ c. search needs) (λ c. search needs) loop-again (λ c. search needs) same-length returns)

@@ -15,33 +15,21 @@ returns-2 c = many-rows _ _ (omega arith)
 returns-3 : tie.Need-returns-3
 returns-3 c = other-room _ _ (omega arith) (omega arith) (search needs)
 
-faults-of-requires : tie.Need-faults-of-requires
-faults-of-requires c κs = search needs
-
 returns-4 : tie.Need-returns-4
 returns-4 c =
     let many : 1 < c .before .before .faults-of .result .rows = omega arith in
     search (many-odd, needs)
-
-ones-of-requires : tie.Need-ones-of-requires
-ones-of-requires c κs = search needs
 
 returns-5 : tie.Need-returns-5
 returns-5 c =
     let many : 1 < c .before .ones-of .result = omega arith in
     search (many-columns, needs)
 
-copy-requires : tie.Need-copy-requires
-copy-requires c κs = search needs
-
 slice-read-output : tie.Need-slice-read-output
 slice-read-output c = search row-inside
 
 slice-write-output : tie.Need-slice-write-output
 slice-write-output c = search row-inside
-
-same-length : tie.Need-same-length
-same-length c = search needs
 
 returns-6 : tie.Need-returns-6
 returns-6 c =
@@ -57,12 +45,12 @@ read-block-spec =
     returns
     returns-2
     returns-3
-    faults-of-requires
+    (λ c κs. search needs)
     returns-4
-    ones-of-requires
+    (λ c κs. search needs)
     returns-5
-    copy-requires
+    (λ c κs. search needs)
     slice-read-output
     slice-write-output
-    same-length
+    (λ c. search needs)
     returns-6)

@@ -4,14 +4,8 @@ use Rattle.code.proofs.Turns.{past-end}
 use Rattle.code.proofs.character.Statement.{statement}
 use Rattle.code.proofs.character.Tie as tie
 
-shared-slice-read-result : tie.Need-shared-slice-read-result
-shared-slice-read-result c = search needs
-
-returns : tie.Need-returns
-returns c = search needs
-
 returns-2 : tie.Need-returns-2
 returns-2 c = search (past-end, needs)
 
 pub character-spec : {M : Type 1} → statement M
-character-spec = tie.close (tie.spec shared-slice-read-result returns returns-2)
+character-spec = tie.close (tie.spec (λ c. search needs) (λ c. search needs) returns-2)

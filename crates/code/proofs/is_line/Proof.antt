@@ -8,20 +8,8 @@ use Rattle.code.proofs.is_line.Tie as tie
 returns : tie.Need-returns
 returns c = search (wrong-length, needs)
 
-in-range-requires : tie.Need-in-range-requires
-in-range-requires c κs = search needs
-
 returns-2 : tie.Need-returns-2
 returns-2 c = search (wrong-characters, not-true, needs)
-
-power-sums-requires : tie.Need-power-sums-requires
-power-sums-requires c κs = search needs
-
-mark-sums-requires : tie.Need-mark-sums-requires
-mark-sums-requires c κs = search needs
-
-same-requires : tie.Need-same-requires
-same-requires c κs = search needs
 
 returns-3 : tie.Need-returns-3
 returns-3 c = search (line-by-sums, not-false, needs)
@@ -31,9 +19,9 @@ is-line-spec =
     tie.close
     (tie.spec
     returns
-    in-range-requires
+    (λ c κs. search needs)
     returns-2
-    power-sums-requires
-    mark-sums-requires
-    same-requires
+    (λ c κs. search needs)
+    (λ c κs. search needs)
+    (λ c κs. search needs)
     returns-3)

@@ -13,9 +13,6 @@ returns c = search (text-length, needs)
 returns-2 : tie.Need-returns-2
 returns-2 c = search (room-length, needs)
 
-in-range-requires : tie.Need-in-range-requires
-in-range-requires c κs = search needs
-
 returns-3 : tie.Need-returns-3
 returns-3 c = search (text-over, not-true, needs)
 
@@ -23,24 +20,6 @@ returns-4 : tie.Need-returns-4
 returns-4 c =
     let over : c .before .before .before .before .before .before .before .args .number ≤ 4095 → ⊥ = λ p. omega arith in
     search (number-over, not-false, over, needs)
-
-information-of-requires : tie.Need-information-of-requires
-information-of-requires c κs = search needs
-
-slice-aggregate-remainder-of : tie.Need-slice-aggregate-remainder-of
-slice-aggregate-remainder-of c = search needs
-
-remainder-of-requires : tie.Need-remainder-of-requires
-remainder-of-requires c κs = search needs
-
-marked-requires : tie.Need-marked-requires
-marked-requires c κs = search needs
-
-write-line-requires : tie.Need-write-line-requires
-write-line-requires c κs = search needs
-
-same-length : tie.Need-same-length
-same-length c = search needs
 
 returns-5 : tie.Need-returns-5
 returns-5 c = search (line-written, not-false, needs)
@@ -51,13 +30,13 @@ encode-line-spec =
     (tie.spec
     returns
     returns-2
-    in-range-requires
+    (λ c κs. search needs)
     returns-3
     returns-4
-    information-of-requires
-    slice-aggregate-remainder-of
-    remainder-of-requires
-    marked-requires
-    write-line-requires
-    same-length
+    (λ c κs. search needs)
+    (λ c. search needs)
+    (λ c κs. search needs)
+    (λ c κs. search needs)
+    (λ c κs. search needs)
+    (λ c. search needs)
     returns-5)

@@ -17,18 +17,6 @@ abbrev μ-loop : tie.MeasureT-loop
 loop-holds : tie.Need-loop-holds Inv-loop μ-loop
 loop-holds c = search (remainder-start, needs)
 
-shared-slice-read-divided : tie.Need-shared-slice-read-divided Inv-loop μ-loop
-shared-slice-read-divided c = search needs
-
-divided-requires : tie.Need-divided-requires Inv-loop μ-loop
-divided-requires c κs = search needs
-
-add-i : tie.Need-add-i Inv-loop μ-loop
-add-i c = search needs
-
-loop-less : tie.Need-loop-less Inv-loop μ-loop
-loop-less c = search needs
-
 loop-again : tie.Need-loop-again Inv-loop μ-loop
 loop-again c = search (remainder-again, needs)
 
@@ -42,9 +30,9 @@ remainder-of-spec =
     Inv-loop
     μ-loop
     loop-holds
-    shared-slice-read-divided
-    divided-requires
-    add-i
-    loop-less
+    (λ c. search needs)
+    (λ c κs. search needs)
+    (λ c. search needs)
+    (λ c. search needs)
     loop-again
     returns)

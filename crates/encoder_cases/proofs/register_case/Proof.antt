@@ -11,45 +11,18 @@ Inv-loop characters register₀ i₀ register i = Unit
 abbrev μ-loop : tie.MeasureT-loop
 μ-loop characters register₀ i₀ register i = length characters - i
 
-loop-holds : tie.Need-loop-holds Inv-loop μ-loop
-loop-holds c = search needs
-
-shared-slice-read-step-case : tie.Need-shared-slice-read-step-case Inv-loop μ-loop
-shared-slice-read-step-case c = search needs
-
-step-case-requires : tie.Need-step-case-requires Inv-loop μ-loop
-step-case-requires c κs = search needs
-
-add-i : tie.Need-add-i Inv-loop μ-loop
-add-i c = search needs
-
-loop-less : tie.Need-loop-less Inv-loop μ-loop
-loop-less c = search needs
-
-loop-again : tie.Need-loop-again Inv-loop μ-loop
-loop-again c = search needs
-
-checks-case-requires : tie.Need-checks-case-requires Inv-loop μ-loop
-checks-case-requires c κs = search needs
-
-checks-case-requires-2 : tie.Need-checks-case-requires-2 Inv-loop μ-loop
-checks-case-requires-2 c κs = search needs
-
-returns : tie.Need-returns Inv-loop μ-loop
-returns c = search needs
-
 pub register-case-spec : {M : Type 1} → statement M
 register-case-spec =
     tie.close
     (tie.spec
     Inv-loop
     μ-loop
-    loop-holds
-    shared-slice-read-step-case
-    step-case-requires
-    add-i
-    loop-less
-    loop-again
-    checks-case-requires
-    checks-case-requires-2
-    returns)
+    (λ c. search needs)
+    (λ c. search needs)
+    (λ c κs. search needs)
+    (λ c. search needs)
+    (λ c. search needs)
+    (λ c. search needs)
+    (λ c κs. search needs)
+    (λ c κs. search needs)
+    (λ c. search needs))

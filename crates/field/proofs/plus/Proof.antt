@@ -1,3 +1,4 @@
+-- `field::plus` meets its contract: sum is exclusive or.
 use borrow.Author.Needs.{needs}
 use Rattle.field.specs.Field.{sum}
 use Rattle.field.proofs.plus.Statement.{statement}

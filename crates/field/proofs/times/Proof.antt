@@ -1,3 +1,4 @@
+-- `field::times` meets its contract: after i turns i of the six bits are added, and what is left makes s the product.
 use borrow.Author.Needs.{needs}
 use Prim.Native.Nat.{_-_}
 use Rattle.field.proofs.Turns.{AddedTo, bit-fits, added-none, added-again, added-all}
@@ -16,15 +17,6 @@ loop-holds c = search (added-none, needs)
 mul-s : tie.Need-mul-s Inv-loop μ-loop
 mul-s c = search (bit-fits, needs)
 
-times-x-requires : tie.Need-times-x-requires Inv-loop μ-loop
-times-x-requires c κs = search needs
-
-add-i : tie.Need-add-i Inv-loop μ-loop
-add-i c = search needs
-
-loop-less : tie.Need-loop-less Inv-loop μ-loop
-loop-less c = search needs
-
 loop-again : tie.Need-loop-again Inv-loop μ-loop
 loop-again c = search (added-again, needs)
 
@@ -34,4 +26,4 @@ returns c = search (added-all, needs)
 pub times-spec : {M : Type 1} → statement M
 times-spec =
     tie.close
-    (tie.spec Inv-loop μ-loop loop-holds mul-s times-x-requires add-i loop-less loop-again returns)
+    (tie.spec Inv-loop μ-loop loop-holds mul-s (λ c κs. search needs) (λ c. search needs) (λ c. search needs) loop-again returns)

@@ -1,3 +1,4 @@
+-- `field_table::answered_row` meets its contract: the count is at most the number of second operands passed.
 use mathlib.Core.Logic.{⊎-elim}
 use native.Mathlib.Omega.{arith}
 use Prim.Native.Nat.{_≤_, _-_}
@@ -11,32 +12,8 @@ Inv-loop call u number n₀ v₀ n v = (v ≤ 256) × (n ≤ v)
 abbrev μ-loop : tie.MeasureT-loop
 μ-loop call u number n₀ v₀ n v = 256 - v
 
-loop-holds : tie.Need-loop-holds Inv-loop μ-loop
-loop-holds c = search needs
-
-cast-second : tie.Need-cast-second Inv-loop μ-loop
-cast-second c = search needs
-
-operate-requires : tie.Need-operate-requires Inv-loop μ-loop
-operate-requires c κs = search needs
-
-answer-requires : tie.Need-answer-requires Inv-loop μ-loop
-answer-requires c κs = search needs
-
-add-n : tie.Need-add-n Inv-loop μ-loop
-add-n c = search needs
-
-add-v : tie.Need-add-v Inv-loop μ-loop
-add-v c = search needs
-
-loop-less : tie.Need-loop-less Inv-loop μ-loop
-loop-less c = search needs
-
 loop-again : tie.Need-loop-again Inv-loop μ-loop
 loop-again c = ⊎-elim (λ w. omega arith) (λ w. omega arith) (c .if1 .came)
-
-returns : tie.Need-returns Inv-loop μ-loop
-returns c = search needs
 
 pub answered-row-spec : {M : Type 1} → statement M
 answered-row-spec =
@@ -44,12 +21,12 @@ answered-row-spec =
     (tie.spec
     Inv-loop
     μ-loop
-    loop-holds
-    cast-second
-    operate-requires
-    answer-requires
-    add-n
-    add-v
-    loop-less
+    (λ c. search needs)
+    (λ c. search needs)
+    (λ c κs. search needs)
+    (λ c κs. search needs)
+    (λ c. search needs)
+    (λ c. search needs)
+    (λ c. search needs)
     loop-again
-    returns)
+    (λ c. search needs))

@@ -1,3 +1,4 @@
+-- `line::read_line` meets its contract: each return is one way in which reading ends, in the order of the refusals.
 use borrow.Author.Needs.{needs}
 use borrow.Author.Tests.{not-true, not-false}
 use Rattle.line.specs.Promises.{Reads}
@@ -11,41 +12,20 @@ returns c = search (other-length, needs)
 returns-2 : tie.Need-returns-2
 returns-2 c = search (other-room, needs)
 
-in-range-requires : tie.Need-in-range-requires
-in-range-requires c κs = search needs
-
 returns-3 : tie.Need-returns-3
 returns-3 c = search (out-of-range, not-true, needs)
 
 returns-4 : tie.Need-returns-4
 returns-4 c = search (radius-over, not-false, needs)
 
-possible-requires : tie.Need-possible-requires
-possible-requires c κs = search needs
-
 returns-5 : tie.Need-returns-5
 returns-5 c = search (number-over, not-true, not-false, needs)
-
-nearest-line-requires : tie.Need-nearest-line-requires
-nearest-line-requires c κs = search needs
 
 returns-6 : tie.Need-returns-6
 returns-6 c = search (no-line, not-true, not-false, needs)
 
-number-of-requires : tie.Need-number-of-requires
-number-of-requires c κs = search needs
-
-is-wanted-requires : tie.Need-is-wanted-requires
-is-wanted-requires c κs = search needs
-
 returns-7 : tie.Need-returns-7
 returns-7 c = search (other-number, not-true, not-false, needs)
-
-put-requires : tie.Need-put-requires
-put-requires c κs = search needs
-
-same-length : tie.Need-same-length
-same-length c = search needs
 
 returns-8 : tie.Need-returns-8
 unfolding Reads
@@ -57,16 +37,16 @@ read-line-spec =
     (tie.spec
     returns
     returns-2
-    in-range-requires
+    (λ c κs. search needs)
     returns-3
     returns-4
-    possible-requires
+    (λ c κs. search needs)
     returns-5
-    nearest-line-requires
+    (λ c κs. search needs)
     returns-6
-    number-of-requires
-    is-wanted-requires
+    (λ c κs. search needs)
+    (λ c κs. search needs)
     returns-7
-    put-requires
-    same-length
+    (λ c κs. search needs)
+    (λ c. search needs)
     returns-8)

@@ -1,3 +1,4 @@
+-- `mender::first` meets its contract: the rows passed so far have 0 at their own degree.
 use borrow.Author.Needs.{needs}
 use Prim.Native.Nat.{_≤_, _-_}
 use borrow.Author.Count.{below-none}
@@ -14,23 +15,8 @@ abbrev μ-loop : tie.MeasureT-loop
 loop-holds : tie.Need-loop-holds Inv-loop μ-loop
 loop-holds c = search (below-none, needs)
 
-mul-if1 : tie.Need-mul-if1 Inv-loop μ-loop
-mul-if1 c = search needs
-
-index-1-if1 : tie.Need-index-1-if1 Inv-loop μ-loop
-index-1-if1 c = search needs
-
-index-2-if1 : tie.Need-index-2-if1 Inv-loop μ-loop
-index-2-if1 c = search needs
-
 returns : tie.Need-returns Inv-loop μ-loop
 returns c = search (first-here, needs)
-
-add-i : tie.Need-add-i Inv-loop μ-loop
-add-i c = search needs
-
-loop-less : tie.Need-loop-less Inv-loop μ-loop
-loop-less c = search needs
 
 loop-again : tie.Need-loop-again Inv-loop μ-loop
 loop-again c = search (bare-more, needs)
@@ -45,11 +31,11 @@ first-spec =
     Inv-loop
     μ-loop
     loop-holds
-    mul-if1
-    index-1-if1
-    index-2-if1
+    (λ c. search needs)
+    (λ c. search needs)
+    (λ c. search needs)
     returns
-    add-i
-    loop-less
+    (λ c. search needs)
+    (λ c. search needs)
     loop-again
     returns-2)

@@ -1,3 +1,4 @@
+-- `mender::kernel` meets its contract: after j windows the rows are those that combine j windows to 0.
 use borrow.Author.Needs.{needs}
 use Prim.Native.Nat.{_≤_, _-_}
 use native.Mathlib.Omega.{arith}
@@ -14,23 +15,8 @@ Inv-loop s n e m₀ j₀ m j = (j ≤ n) × Spanned s e j m
 abbrev μ-loop : tie.MeasureT-loop
 μ-loop s n e m₀ j₀ m j = n - j
 
-units-requires : tie.Need-units-requires Inv-loop μ-loop
-units-requires c κs = search needs
-
 loop-holds : tie.Need-loop-holds Inv-loop μ-loop
 loop-holds c = search (spanned-units, needs)
-
-pivot-requires : tie.Need-pivot-requires Inv-loop μ-loop
-pivot-requires c κs = search needs
-
-cleared-requires : tie.Need-cleared-requires Inv-loop μ-loop
-cleared-requires c κs = search needs
-
-add-j : tie.Need-add-j Inv-loop μ-loop
-add-j c = search needs
-
-loop-less : tie.Need-loop-less Inv-loop μ-loop
-loop-less c = search needs
 
 loop-again : tie.Need-loop-again Inv-loop μ-loop
 loop-again c = (omega arith, ⊎-elim (λ w. search (kernel-step, needs)) (λ w. search (kernel-skip, needs)) (c .if1 .came))
@@ -44,11 +30,11 @@ kernel-spec =
     (tie.spec
     Inv-loop
     μ-loop
-    units-requires
+    (λ c κs. search needs)
     loop-holds
-    pivot-requires
-    cleared-requires
-    add-j
-    loop-less
+    (λ c κs. search needs)
+    (λ c κs. search needs)
+    (λ c. search needs)
+    (λ c. search needs)
     loop-again
     returns)

@@ -1,3 +1,4 @@
+-- `mender::mix` meets its contract: after k turns the first k terms are added.
 use borrow.Author.Needs.{needs}
 use Prim.Native.Nat.{_≤_, _-_}
 use mathlib.Core.Path.{_≡_}
@@ -14,24 +15,6 @@ abbrev μ-loop : tie.MeasureT-loop
 loop-holds : tie.Need-loop-holds Inv-loop μ-loop
 loop-holds c = search (mix-none, needs)
 
-array-read-times : tie.Need-array-read-times Inv-loop μ-loop
-array-read-times c = search needs
-
-add-times : tie.Need-add-times Inv-loop μ-loop
-add-times c = search needs
-
-array-read-times-2 : tie.Need-array-read-times-2 Inv-loop μ-loop
-array-read-times-2 c = search needs
-
-times-requires : tie.Need-times-requires Inv-loop μ-loop
-times-requires c κs = search needs
-
-add-k : tie.Need-add-k Inv-loop μ-loop
-add-k c = search needs
-
-loop-less : tie.Need-loop-less Inv-loop μ-loop
-loop-less c = search needs
-
 loop-again : tie.Need-loop-again Inv-loop μ-loop
 loop-again c = search (mix-again, needs)
 
@@ -45,11 +28,11 @@ mix-spec =
     Inv-loop
     μ-loop
     loop-holds
-    array-read-times
-    add-times
-    array-read-times-2
-    times-requires
-    add-k
-    loop-less
+    (λ c. search needs)
+    (λ c. search needs)
+    (λ c. search needs)
+    (λ c κs. search needs)
+    (λ c. search needs)
+    (λ c. search needs)
     loop-again
     returns)

@@ -1,3 +1,4 @@
+-- `mender::row_added` meets its contract: the entries passed so far have the multiple added.
 use borrow.Author.Needs.{needs}
 use Prim.Native.Nat.{_≤_, _-_}
 use Rattle.mender.proofs.Turns.{RowAddedTo, row-added-none, row-added-again, row-added-all, row-added-long}
@@ -13,24 +14,6 @@ abbrev μ-loop : tie.MeasureT-loop
 loop-holds : tie.Need-loop-holds Inv-loop μ-loop
 loop-holds c = search (row-added-none, needs)
 
-array-read-r : tie.Need-array-read-r Inv-loop μ-loop
-array-read-r c = search needs
-
-array-read-times : tie.Need-array-read-times Inv-loop μ-loop
-array-read-times c = search needs
-
-times-requires : tie.Need-times-requires Inv-loop μ-loop
-times-requires c κs = search needs
-
-array-write-r : tie.Need-array-write-r Inv-loop μ-loop
-array-write-r c = search needs
-
-add-k : tie.Need-add-k Inv-loop μ-loop
-add-k c = search needs
-
-loop-less : tie.Need-loop-less Inv-loop μ-loop
-loop-less c = search needs
-
 loop-again : tie.Need-loop-again Inv-loop μ-loop
 loop-again c = search (row-added-again, needs)
 
@@ -44,11 +27,11 @@ row-added-spec =
     Inv-loop
     μ-loop
     loop-holds
-    array-read-r
-    array-read-times
-    times-requires
-    array-write-r
-    add-k
-    loop-less
+    (λ c. search needs)
+    (λ c. search needs)
+    (λ c κs. search needs)
+    (λ c. search needs)
+    (λ c. search needs)
+    (λ c. search needs)
     loop-again
     returns)

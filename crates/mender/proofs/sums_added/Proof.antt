@@ -1,3 +1,4 @@
+-- `mender::sums_added` meets its contract: the entries passed so far are added.
 use borrow.Author.Needs.{needs}
 use Prim.Native.Nat.{_≤_, _-_}
 use Rattle.mender.proofs.Turns.{SummedTo, summed-none, summed-first, summed-all, summed-long}
@@ -13,21 +14,6 @@ abbrev μ-loop : tie.MeasureT-loop
 loop-holds : tie.Need-loop-holds Inv-loop μ-loop
 loop-holds c = search (summed-none, needs)
 
-array-read-r : tie.Need-array-read-r Inv-loop μ-loop
-array-read-r c = search needs
-
-array-read-r-2 : tie.Need-array-read-r-2 Inv-loop μ-loop
-array-read-r-2 c = search needs
-
-array-write-r : tie.Need-array-write-r Inv-loop μ-loop
-array-write-r c = search needs
-
-add-k : tie.Need-add-k Inv-loop μ-loop
-add-k c = search needs
-
-loop-less : tie.Need-loop-less Inv-loop μ-loop
-loop-less c = search needs
-
 loop-again : tie.Need-loop-again Inv-loop μ-loop
 loop-again c = search (summed-first, needs)
 
@@ -41,10 +27,10 @@ sums-added-spec =
     Inv-loop
     μ-loop
     loop-holds
-    array-read-r
-    array-read-r-2
-    array-write-r
-    add-k
-    loop-less
+    (λ c. search needs)
+    (λ c. search needs)
+    (λ c. search needs)
+    (λ c. search needs)
+    (λ c. search needs)
     loop-again
     returns)

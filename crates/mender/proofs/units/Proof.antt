@@ -1,3 +1,4 @@
+-- `mender::units` meets its contract: the first i unit vectors are set.
 use borrow.Author.Needs.{needs}
 use Prim.Native.Nat.{suc, _≤_, _-_}
 use Rattle.mender.specs.Inside.{Units}
@@ -14,21 +15,6 @@ abbrev μ-loop : tie.MeasureT-loop
 loop-holds : tie.Need-loop-holds Inv-loop μ-loop
 loop-holds c = search (units-none, needs)
 
-mul-m : tie.Need-mul-m Inv-loop μ-loop
-mul-m c = search needs
-
-index-1-m : tie.Need-index-1-m Inv-loop μ-loop
-index-1-m c = search needs
-
-index-2-m : tie.Need-index-2-m Inv-loop μ-loop
-index-2-m c = search needs
-
-add-i : tie.Need-add-i Inv-loop μ-loop
-add-i c = search needs
-
-loop-less : tie.Need-loop-less Inv-loop μ-loop
-loop-less c = search needs
-
 loop-again : tie.Need-loop-again Inv-loop μ-loop
 loop-again c = search (units-turn, needs)
 
@@ -42,10 +28,10 @@ units-spec =
     Inv-loop
     μ-loop
     loop-holds
-    mul-m
-    index-1-m
-    index-2-m
-    add-i
-    loop-less
+    (λ c. search needs)
+    (λ c. search needs)
+    (λ c. search needs)
+    (λ c. search needs)
+    (λ c. search needs)
     loop-again
     returns)

@@ -1,3 +1,4 @@
+-- `mender::values` meets its contract: x is the place of address 62 - l, and the characters from there on are done.
 use borrow.Author.Needs.{needs}
 use Prim.Native.Nat.{_≤_, _-_}
 use mathlib.Core.Path.{_≡_}
@@ -16,23 +17,8 @@ abbrev μ-loop : tie.MeasureT-loop
 loop-holds : tie.Need-loop-holds Inv-loop μ-loop
 loop-holds c = search (valued-none, place-first, needs)
 
-value-requires : tie.Need-value-requires Inv-loop μ-loop
-value-requires c κs = search needs
-
-sub-w : tie.Need-sub-w Inv-loop μ-loop
-sub-w c = search needs
-
 array-write-w : tie.Need-array-write-w Inv-loop μ-loop
 array-write-w c = search (valued-long, needs)
-
-times-x-requires : tie.Need-times-x-requires Inv-loop μ-loop
-times-x-requires c κs = search needs
-
-add-l : tie.Need-add-l Inv-loop μ-loop
-add-l c = search needs
-
-loop-less : tie.Need-loop-less Inv-loop μ-loop
-loop-less c = search needs
 
 loop-again : tie.Need-loop-again Inv-loop μ-loop
 loop-again c = search (valued-again, place-next, needs)
@@ -47,11 +33,11 @@ values-spec =
     Inv-loop
     μ-loop
     loop-holds
-    value-requires
-    sub-w
+    (λ c κs. search needs)
+    (λ c. search needs)
     array-write-w
-    times-x-requires
-    add-l
-    loop-less
+    (λ c κs. search needs)
+    (λ c. search needs)
+    (λ c. search needs)
     loop-again
     returns)

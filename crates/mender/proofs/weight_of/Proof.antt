@@ -1,3 +1,4 @@
+-- `mender::weight_of` meets its contract: the characters passed so far are weighed.
 use borrow.Author.Needs.{needs}
 use Prim.Native.Nat.{_≤_, _-_}
 use mathlib.Core.Logic.{⊎-elim}
@@ -15,18 +16,6 @@ abbrev μ-loop : tie.MeasureT-loop
 loop-holds : tie.Need-loop-holds Inv-loop μ-loop
 loop-holds c = search (weighed-none, needs)
 
-array-read-if1 : tie.Need-array-read-if1 Inv-loop μ-loop
-array-read-if1 c = search needs
-
-add-n : tie.Need-add-n Inv-loop μ-loop
-add-n c = search needs
-
-add-a : tie.Need-add-a Inv-loop μ-loop
-add-a c = search needs
-
-loop-less : tie.Need-loop-less Inv-loop μ-loop
-loop-less c = search needs
-
 loop-again : tie.Need-loop-again Inv-loop μ-loop
 loop-again c = (omega arith, ⊎-elim (λ w. search (weighed-more, needs)) (λ w. search (weighed-same, needs)) (c .if1 .came))
 
@@ -36,4 +25,4 @@ returns c = search (weighed-all, needs)
 pub weight-of-spec : {M : Type 1} → statement M
 weight-of-spec =
     tie.close
-    (tie.spec Inv-loop μ-loop loop-holds array-read-if1 add-n add-a loop-less loop-again returns)
+    (tie.spec Inv-loop μ-loop loop-holds (λ c. search needs) (λ c. search needs) (λ c. search needs) (λ c. search needs) loop-again returns)

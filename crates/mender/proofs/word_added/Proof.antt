@@ -1,3 +1,4 @@
+-- `mender::word_added` meets its contract: the characters passed so far are added.
 use borrow.Author.Needs.{needs}
 use Prim.Native.Nat.{_≤_, _-_}
 use Rattle.mender.proofs.Turns.{SummedTo, summed-none, summed-second, summed-all, summed-long}
@@ -13,21 +14,6 @@ abbrev μ-loop : tie.MeasureT-loop
 loop-holds : tie.Need-loop-holds Inv-loop μ-loop
 loop-holds c = search (summed-none, needs)
 
-shared-slice-read-r : tie.Need-shared-slice-read-r Inv-loop μ-loop
-shared-slice-read-r c = search needs
-
-array-read-r : tie.Need-array-read-r Inv-loop μ-loop
-array-read-r c = search needs
-
-array-write-r : tie.Need-array-write-r Inv-loop μ-loop
-array-write-r c = search needs
-
-add-a : tie.Need-add-a Inv-loop μ-loop
-add-a c = search needs
-
-loop-less : tie.Need-loop-less Inv-loop μ-loop
-loop-less c = search needs
-
 loop-again : tie.Need-loop-again Inv-loop μ-loop
 loop-again c = search (summed-second, needs)
 
@@ -41,10 +27,10 @@ word-added-spec =
     Inv-loop
     μ-loop
     loop-holds
-    shared-slice-read-r
-    array-read-r
-    array-write-r
-    add-a
-    loop-less
+    (λ c. search needs)
+    (λ c. search needs)
+    (λ c. search needs)
+    (λ c. search needs)
+    (λ c. search needs)
     loop-again
     returns)

@@ -12,17 +12,8 @@ returns c = asked-over _ (omega arith)
 returns-2 : tie.Need-returns-2
 returns-2 c = asked-early _ (omega arith)
 
-slice-aggregate-in-range : tie.Need-slice-aggregate-in-range
-slice-aggregate-in-range c = search needs
-
-in-range-requires : tie.Need-in-range-requires
-in-range-requires c κs = search needs
-
 returns-3 : tie.Need-returns-3
 returns-3 c = search (asked-held-over, not-true, needs)
-
-marked-requires : tie.Need-marked-requires
-marked-requires c κs = search needs
 
 returns-4 : tie.Need-returns-4
 returns-4 c = search (checks-given, not-false, needs)
@@ -33,8 +24,8 @@ checks-spec =
     (tie.spec
     returns
     returns-2
-    slice-aggregate-in-range
-    in-range-requires
+    (λ c. search needs)
+    (λ c κs. search needs)
     returns-3
-    marked-requires
+    (λ c κs. search needs)
     returns-4)

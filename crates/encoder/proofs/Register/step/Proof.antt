@@ -9,23 +9,11 @@ use Rattle.encoder.proofs.Register.step.Tie as tie
 returns : tie.Need-returns
 returns c = step-full _ _ (omega arith)
 
-slice-aggregate-in-range : tie.Need-slice-aggregate-in-range
-slice-aggregate-in-range c = search needs
-
-in-range-requires : tie.Need-in-range-requires
-in-range-requires c κs = search needs
-
 returns-2 : tie.Need-returns-2
 returns-2 c = search (held-over, not-true, needs)
 
 returns-3 : tie.Need-returns-3
 returns-3 c = search (character-over, not-false, needs)
-
-divided-requires : tie.Need-divided-requires
-divided-requires c κs = search needs
-
-add-self : tie.Need-add-self
-add-self c = search needs
 
 returns-4 : tie.Need-returns-4
 returns-4 c = search (step-taken, not-false, needs)
@@ -35,10 +23,10 @@ step-spec =
     tie.close
     (tie.spec
     returns
-    slice-aggregate-in-range
-    in-range-requires
+    (λ c. search needs)
+    (λ c κs. search needs)
     returns-2
     returns-3
-    divided-requires
-    add-self
+    (λ c κs. search needs)
+    (λ c. search needs)
     returns-4)

@@ -13,6 +13,7 @@ mod field;
 mod line;
 mod random;
 mod ring;
+mod sheet;
 
 use std::fs;
 
@@ -28,6 +29,7 @@ fn store(name: &str, stdin: Option<&[u8]>, stdout: &[u8]) {
 fn main() {
     let what = std::env::args().nth(1).unwrap_or_default();
     match what.as_str() {
+        "bench_sheet" => store(&what, None, sheet::rows().as_bytes()),
         "block_cases" => {
             let (stdin, stdout) = block::cases();
             store(&what, Some(&stdin), stdout.as_bytes());
@@ -46,7 +48,7 @@ fn main() {
         }
         "field_table" => store(&what, None, field::table().as_bytes()),
         _ => {
-            eprintln!("second WHAT, from the project's root. WHAT: block_cases encoder_cases field_table line_cases ring_cases");
+            eprintln!("second WHAT, from the project's root. WHAT: bench_sheet block_cases encoder_cases field_table line_cases ring_cases");
             std::process::exit(2);
         }
     }

@@ -116,14 +116,31 @@ wrong-60 =
 
 -- the whole sheet
 pub starred-rows : Every table
-starred-rows =
-    (products .0,
-    (products .1,
-    (record { element = omega arith; exact = λ d. absurd (d refl); by-zero = λ z. refl },
-    (z-line,
-    ((dark-no-line, z-line, dark-distance),
-    ((text65 ++ 1 ∷ 1 ∷ checks65, line-65, checks-65 (text65 ++ 1 ∷ 1 ∷ checks65) line-65),
-    (wrong-60,
-    (bench-sheet .0,
-    (bench-sheet .1 .0,
-    (bench-sheet .1 .1 .0, tt))))))))))
+starred-rows = (
+  products .0,
+  (
+    products .1,
+    (
+      record { element = omega arith; exact = λ d. absurd (d refl); by-zero = λ z. refl },
+      (
+        z-line,
+        (
+          (dark-no-line, z-line, dark-distance),
+          (
+            (text65 ++ 1 ∷ 1 ∷ checks65, line-65, checks-65 (text65 ++ 1 ∷ 1 ∷ checks65) line-65),
+            (
+              wrong-60,
+              (
+                bench-sheet .0,
+                (
+                  bench-sheet .1 .0,
+                  (bench-sheet .1 .1 .0, tt),
+                ),
+              ),
+            ),
+          ),
+        ),
+      ),
+    ),
+  ),
+)

@@ -63,17 +63,22 @@ fn five_at_60() -> [u8; 63] {
     z
 }
 
-// Z with its first n characters wrong.
-fn with_wrong(n: usize) -> [u8; 63] {
-    let mut w = zero_line();
-    let mut a: usize = 0;
-    while a < 63 {
-        if a < n {
-            w[a] = w[a] ^ 9;
-        }
-        a += 1;
-    }
-    w
+// Z with five characters wrong.
+fn five_wrong() -> [u8; 63] {
+    let mut z = zero_line();
+    z[0] = 9;
+    z[7] = 1;
+    z[19] = 63;
+    z[50] = 32;
+    z[62] = 0;
+    z
+}
+
+// And with a sixth.
+fn six_wrong() -> [u8; 63] {
+    let mut z = five_wrong();
+    z[33] = 9;
+    z
 }
 
 fn print_is_line(title: &[u8], word: [u8; 63]) {
@@ -172,7 +177,10 @@ fn print_line_rows() {
     print_is_line(b"Z:", zero_line());
     print_is_line(b"63 zeros:", [0u8; 63]);
     print_line(b"63 zeros, radius 3:", [0u8; 63], 3, Wanted::Any);
-    print_encoding(b"text 1 at 5, 6, 14, 15, 23, 24, 32, 33, 41, 42, number 65:", 65);
+    print_encoding(
+        b"text 1 at 5, 6, 14, 15, 23, 24, 32, 33, 41, 42, number 65:",
+        65,
+    );
     print_line(b"Z with 5 at 60, radius 1:", five_at_60(), 1, Wanted::Any);
 }
 
@@ -183,10 +191,15 @@ fn print_starred_blocks() {
 }
 
 fn print_damaged_lines() {
-    print_line(b"Z with 5 wrong, radius 5:", with_wrong(5), 5, Wanted::Any);
-    print_line(b"Z with 5 wrong, radius 4:", with_wrong(5), 4, Wanted::Any);
-    print_line(b"Z with 6 wrong, radius 5:", with_wrong(6), 5, Wanted::Any);
-    print_line(b"Z with 5 at 60, radius 1, wanted 1:", five_at_60(), 1, Wanted::Number(1));
+    print_line(b"Z with 5 wrong, radius 5:", five_wrong(), 5, Wanted::Any);
+    print_line(b"Z with 5 wrong, radius 4:", five_wrong(), 4, Wanted::Any);
+    print_line(b"Z with 6 wrong, radius 5:", six_wrong(), 5, Wanted::Any);
+    print_line(
+        b"Z with 5 at 60, radius 1, wanted 1:",
+        five_at_60(),
+        1,
+        Wanted::Number(1),
+    );
 }
 
 fn print_bounds() {

@@ -1,9 +1,9 @@
 -- The bench sheet's starred rows, in its order: one table, and one statement that every row of it is true.
-use mathlib.Core.Path.{_≡_, refl, sym, ap, _∙_, subst}
+use mathlib.Core.Path.{_≡_, refl, ap, subst}
 use mathlib.Core.List.{List, [], _∷_, _++_}
-use Prim.Native.Nat.{ℕ, _+_, _-_, _%_, _<_, _≤_}
+use Prim.Native.Nat.{ℕ, _+_, _-_, _%_, _≤_}
 use native.Mathlib.Omega.{arith}
-use lib.ListN.{length, getD, set, replicate, drop}
+use lib.ListN.{getD, set, replicate, drop}
 use Rattle.field.specs.Field.{sum, timesX, shifted, product, α, power, Quotient, Log}
 use Rattle.code.specs.Word.{powerSum, added, marks, Clean, Line, distance}
 use Rattle.code.proofs.Theorems.{zero-line, twelve-apart, one-wrong-character}

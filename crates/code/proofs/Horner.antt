@@ -7,7 +7,7 @@ use lib.ListN.{getD}
 use Rattle.field.specs.Field.{sum, product, α, power, total}
 use Rattle.field.proofs.Laws
 use Rattle.field.proofs.Totals.{total-same, total-scaled}
-use Rattle.code.specs.Word.{marks, listed}
+use Rattle.code.specs.Word.{listed}
 use Rattle.code.specs.Inside.{PowerSums, wordAt}
 use Rattle.code.proofs.Words.{listed-long, listed-get}
 use Rattle.code.proofs.Sums.{powerSum-at}
@@ -38,13 +38,11 @@ pub horner-word : (x : ℕ) (w : List ℕ) → horner x w 63 ≡ wordAt w x
 unfolding wordAt
 horner-word x w = horner-total x w 63
 
--- ---- the sums of the marks
-
-pub mark-sums : PowerSums marks (listed (λ k. horner (power α (58 + k)) marks 63) 0 11)
-mark-sums =
+-- the power sums of any word
+pub horner-sums : (w : List ℕ) → PowerSums w (listed (λ k. horner (power α (58 + k)) w 63) 0 11)
+horner-sums w =
     record {
-      long = listed-long (λ k. horner (power α (58 + k)) marks 63) 0 11;
+      long = listed-long (λ k. horner (power α (58 + k)) w 63) 0 11;
       sum-at = λ k h.
-          listed-get (λ k. horner (power α (58 + k)) marks 63) 11 k h
-          ∙ horner-word (power α (58 + k)) marks ∙ sym (powerSum-at (58 + k) marks);
+          listed-get (λ k. horner (power α (58 + k)) w 63) 11 k h ∙ horner-word (power α (58 + k)) w ∙ sym (powerSum-at (58 + k) w);
     }

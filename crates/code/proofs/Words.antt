@@ -78,6 +78,12 @@ added-assoc (c ∷ cs) [] w = refl
 added-assoc (c ∷ cs) (d ∷ ds) [] = refl
 added-assoc (c ∷ cs) (d ∷ ds) (e ∷ es) = cons (Laws.sum-assoc c d e) (added-assoc cs ds es)
 
+pub added-four : (a b c d : List ℕ) → added (added a b) (added c d) ≡ added (added a c) (added b d)
+added-four a b c d =
+    added-assoc a b (added c d)
+    ∙ ap (added a) (sym (added-assoc b c d) ∙ ap (λ (w : List ℕ). added w d) (added-comm b c) ∙ added-assoc c b d)
+    ∙ sym (added-assoc a c (added b d))
+
 -- what is added twice goes away
 pub added-twice : (u v : List ℕ) → length u ≡ length v → added (added u v) v ≡ u
 unfolding added

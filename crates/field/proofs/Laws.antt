@@ -1,8 +1,8 @@
 -- The laws of the field. Sum and product are defined at every number, and most laws hold at every number; where one wants an element or one that is not 0, it says so.
 use mathlib.Core.Path.{_≡_, refl, sym, ap, ap₂, _∙_, subst}
-use mathlib.Core.Bool.{Bool, true, false, not, cond}
-use Prim.Native.Nat.{ℕ, zero, suc, _+_, _-_, _*_, _/_, _%_, _^_, _<_, _≤_}
-use native.Mathlib.Nat.{div-add-mod', add-zero, zero-add, add-suc, suc-add, suc-mul, mul-comm, add-comm, zero-mul, one-mul, mod-eq-of-lt}
+use mathlib.Core.Bool.{not, cond}
+use Prim.Native.Nat.{ℕ, zero, suc, _+_, _-_, _*_, _/_, _%_, _^_, _<_}
+use native.Mathlib.Nat.{div-add-mod', zero-add, suc-add, suc-mul, mul-comm, add-comm, zero-mul, one-mul, mod-eq-of-lt}
 use native.Mathlib.Omega.{arith}
 use native.Mathlib.Numerals.{add-one}
 use lib.Bits.{bitXor, xor-lt, xor-self, xor-comm, xor-zero-r, xor-mod, xor-shr}

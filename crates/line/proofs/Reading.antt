@@ -1,18 +1,18 @@
 -- The ways out of reading a line, a test at a time, in the paper's order.
 use mathlib.Core.Path.{_≡_, refl, sym, ap, ap₂, _∙_, subst}
 use mathlib.Core.Bool.{Bool, true, false}
-use mathlib.Core.Logic.{_⊎_, inl, inr}
+use mathlib.Core.Logic.{inl, inr}
 use mathlib.Core.List.{List, [], _∷_, _++_, append-nil}
 use Prim.Native.Nat.{ℕ, min, _+_, _*_, _%_, _<_, _≤_}
-use native.Mathlib.Nat.{le-trans, le-of-eq, mod-eq-of-lt}
+use native.Mathlib.Nat.{mod-eq-of-lt}
 use native.Mathlib.Omega.{arith}
-use lib.Dec.{leb, eqb, T}
+use lib.Dec.{leb, eqb}
 use lib.ListN.{length, getD, take, drop}
 use lib.Seq.{take-all, drop-length}
 use borrow.Author.Tests.{leb-true, leb-false, eqb-true, eqb-false}
 use Rattle.refusal.specs.Promise.{Tells}
-use Rattle.refusal.proofs.Laws.{tells-yes, tells-no}
-use Rattle.code.specs.Word.{Characters, Line, marks, number, distance, powerSum}
+use Rattle.refusal.proofs.Laws.{tells-yes}
+use Rattle.code.specs.Word.{Characters, Line, marks, number, distance}
 use Rattle.code.specs.Inside.{PowerSums}
 use Rattle.code.proofs.Lines.{line-long, line-characters, line-sums, sums-line}
 use Rattle.code.proofs.Theorems.{one-line-near}

@@ -1,6 +1,6 @@
 -- The theorems of line reading: it yields the line within the radius, refuses for want of one exactly when there is none, and allows one result.
 use mathlib.Core.Path.{_≡_, refl, sym, ap, ap₂, _∙_}
-use mathlib.Core.Logic.{_⊎_, inl, inr}
+use mathlib.Core.Logic.{inl, inr}
 use mathlib.Core.List.{List, [], _∷_}
 use Prim.Native.Nat.{ℕ, min, _≤_}
 use native.Mathlib.Omega.{arith}
@@ -15,7 +15,7 @@ use Rattle.line.specs.declared.Wanted.{Wanted}
 use Rattle.line.specs.declared.Wanted.the-variants as W
 use Rattle.line.specs.declared.LineReading.{LineReading}
 use Rattle.line.specs.declared.LineReading.the-variants as R
-use Rattle.line.specs.Promises.{readingNumbers, Within, Readable, Possible, readingTests, ReadAs, Reads}
+use Rattle.line.specs.Promises.{readingNumbers, Within, Readable, readingTests, ReadAs, Reads}
 use Rattle.line.specs.Inside.{NearestLine}
 
 -- if a line lies within t it is the only one

@@ -1,8 +1,8 @@
 -- The word that is found is the one that fits, and where a test fails none does; from errors to the nearest word with given sums.
-use mathlib.Core.Path.{_≡_, refl, sym, ap, ap₂, _∙_, subst}
+use mathlib.Core.Path.{_≡_, refl, sym, ap, _∙_, subst}
 use mathlib.Core.Bool.{Bool, true, false, cond}
 use mathlib.Core.Logic.{⊎-elim}
-use mathlib.Core.List.{List, [], _∷_}
+use mathlib.Core.List.{List, []}
 use Prim.Native.Nat.{ℕ, zero, suc, min, _+_, _-_, _/_, _<_, _≤_}
 use native.Mathlib.Nat.{le-trans, le-of-eq}
 use native.Mathlib.Omega.{arith}
@@ -13,15 +13,15 @@ use Rattle.refusal.specs.Promise.{Tells}
 use Rattle.field.specs.Field.{sum, product, α, power}
 use Rattle.field.specs.Inside.{inverse}
 use Rattle.field.proofs.Laws
-use Rattle.polynomial.specs.Sums.{weight, Zeros}
+use Rattle.polynomial.specs.Sums.{weight}
 use Rattle.polynomial.specs.Polynomial.{polyAt, over}
 use Rattle.code.specs.Word.{Characters, powerSum, Clean, added, distance}
 use Rattle.code.specs.Inside.{PowerSums}
-use Rattle.code.proofs.Words.{characters-below, length-added, added-get, characters-added, added-comm, added-twice}
+use Rattle.code.proofs.Words.{characters-below, length-added, added-get, characters-added}
 use Rattle.code.proofs.Distances.{distance-weight, distance-added}
 use Rattle.code.proofs.Sums.{powerSum-added}
 use Rattle.mender.specs.declared.Mended.{Mended}
-use Rattle.mender.specs.Mender.{Fits, MendsTo, Mends, Word, Nearest, HasSums, NearestWith, NearestClean}
+use Rattle.mender.specs.Mender.{Fits, MendsTo, Mends, Word, Nearest, HasSums}
 use Rattle.mender.specs.Inside.{mixed, coef, at, Spanned, First, Small, valueOf, ValuedFrom, Agree, Nothing}
 use Rattle.mender.proofs.Fitting.{row-least, some-row, value-is}
 

@@ -1,29 +1,26 @@
 -- What the sums say of a word that fits them: the first row left is 0 at the places of its errors, and their values come out of it.
 use mathlib.Core.Path.{_≡_, refl, sym, ap, ap₂, _∙_, subst}
-use mathlib.Core.Bool.{cond}
 use mathlib.Core.Logic.{_⊎_, inl, inr, ⊎-elim}
 use mathlib.Core.List.{List, [], _∷_}
 use Prim.Native.Nat.{ℕ, zero, suc, _+_, _-_, _<_, _≤_}
-use native.Mathlib.Nat.{add-zero, add-suc, suc-add, le-trans, le-of-eq, not-suc-le-zero, le-of-suc-le-suc}
+use native.Mathlib.Nat.{add-zero, add-suc, suc-add, le-of-eq, not-suc-le-zero, le-of-suc-le-suc}
 use native.Mathlib.Omega.{arith}
 use lib.ListN.{getD, length, drop, List·getD-eq-default}
 use lib.Seq.{drop-cons}
-use lib.Dec.{eqb}
 use borrow.Author.Tests.{eq-eqb, ne-eqb}
 use Rattle.numbers.proofs.Cases.{le-or-lt, same-or-not, pos-of-not-zero}
 use Rattle.field.specs.Field.{sum, product, α, power, total}
 use Rattle.field.specs.Inside.{inverse}
 use Rattle.field.proofs.Laws
 use Rattle.field.proofs.Totals.{total-none, total-front}
-use Rattle.polynomial.specs.Sums.{moment, weight, Places, Values, Zeros}
+use Rattle.polynomial.specs.Sums.{moment, Places, Values, Zeros}
 use Rattle.polynomial.specs.Polynomial.{polyAt, combined, scaled, over, locator}
-use Rattle.polynomial.proofs.Places.{place-pos, place-lt, value-lt}
+use Rattle.polynomial.proofs.Places.{place-pos, place-lt}
 use Rattle.polynomial.proofs.Vandermonde.{zeros-get}
 use Rattle.polynomial.proofs.Combining.{scaled-get}
 use Rattle.polynomial.proofs.Division.{over-get, length-over, poly-past, poly-small, over-small}
 use Rattle.polynomial.proofs.Locator.{locator-elements}
 use Rattle.polynomial.proofs.Theorems.{zero-at-places, Locates, a-locator, one-value-left}
-use Rattle.code.specs.Word.{powerSum}
 use Rattle.code.proofs.Sums.{places, places-long, places-get, places-good, values-63, powerSum-moment}
 use Rattle.mender.specs.Mender.{Fits}
 use Rattle.mender.specs.Inside.{mixed, coef, at, Degree, Spanned, valueOf}

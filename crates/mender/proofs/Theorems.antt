@@ -2,7 +2,7 @@
 use mathlib.Core.Path.{_≡_, refl, sym, ap, ap₂, _∙_}
 use mathlib.Core.Bool.{Bool, true, false}
 use mathlib.Core.List.{List}
-use Prim.Native.Nat.{ℕ, min, _+_, _/_, _<_, _≤_}
+use Prim.Native.Nat.{ℕ, min, _+_, _/_, _≤_}
 use native.Mathlib.Nat.{le-trans, le-of-eq}
 use native.Mathlib.Omega.{arith}
 use lib.ListN.{length, getD}
@@ -10,13 +10,13 @@ use Rattle.field.specs.Field.{sum}
 use Rattle.field.proofs.Laws
 use Rattle.polynomial.specs.Sums.{weight}
 use Rattle.polynomial.proofs.Theorems.{vanishing-sums}
-use Rattle.code.specs.Word.{powerSum, Clean, added, distance}
+use Rattle.code.specs.Word.{Clean, added, distance}
 use Rattle.code.proofs.Words.{length-added, characters-added, added-zeros}
 use Rattle.code.proofs.Distances.{weight-added, distance-comm, triangle, distance-weight}
 use Rattle.code.proofs.Theorems.{one-clean-near}
 use Rattle.code.proofs.Sums.{places, places-good, values-63, powerSum-moment, powerSum-added}
 use Rattle.mender.specs.declared.Mended.{Mended}
-use Rattle.mender.specs.Mender.{Fits, MendsTo, Mends, Word, Nearest, HasSums, NearestWith, NearestClean}
+use Rattle.mender.specs.Mender.{Fits, Mends, Word, Nearest, HasSums, NearestWith, NearestClean}
 
 -- one word at most fits, where the errors are at most half the sums
 pub one-fits : (s : List ℕ) (c e : ℕ) (u v : List ℕ) → e + e ≤ c → Fits s c e u → Fits s c e v → u ≡ v

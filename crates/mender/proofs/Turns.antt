@@ -1,9 +1,9 @@
 -- What the mender's code does, a turn of each loop at a time, over plain variables.
 use mathlib.Core.Path.{_≡_, refl, sym, ap, ap₂, _∙_, subst}
-use mathlib.Core.Bool.{Bool, true, false, cond}
-use mathlib.Core.Logic.{_⊎_, inl, inr, ⊎-elim}
+use mathlib.Core.Bool.{true, false}
+use mathlib.Core.Logic.{_⊎_, ⊎-elim}
 use mathlib.Core.List.{List, [], _∷_, _++_}
-use Prim.Native.Nat.{ℕ, zero, suc, min, _+_, _-_, _*_, _/_, _%_, _<_, _≤_}
+use Prim.Native.Nat.{ℕ, zero, suc, _+_, _-_, _%_, _<_, _≤_}
 use native.Mathlib.Nat.{add-comm, add-zero, add-assoc, eq-or-lt-of-le, mod-eq-of-lt}
 use native.Mathlib.Numerals.{add-one}
 use native.Mathlib.Omega.{arith}
@@ -12,7 +12,6 @@ use borrow.Author.Tests.{eq-eqb, ne-eqb}
 use lib.ListN.{getD, length, set, take, drop, replicate, getD-replicate, length-set, List·getD-eq-default}
 use lib.Seq.{drop-cons, getD-set-same, getD-set-other, ext-getD, drop-length, take-suc, take-all}
 use lib.Bits.{bitXor}
-use lib.Dec.{eqb}
 use Rattle.numbers.proofs.Cases.{le-or-lt, same-or-not, pos-of-not-zero}
 use Rattle.refusal.specs.Promise.{Tells}
 use Rattle.refusal.proofs.Laws.{tells-yes, tells-no}
@@ -25,15 +24,7 @@ use Rattle.polynomial.proofs.Division.{over-get, length-over, poly-small, over-
 use Rattle.code.specs.Word.{added}
 use Rattle.code.proofs.Words.{length-added, added-get}
 use Rattle.mender.specs.Inside.{mixed, coef, at, Units, Spanned, Pivot, RowAdded, Stepped, First, Small, valueOf, ValuedFrom, Agree}
-use Rattle.mender.proofs.Windows.{mixed-lt, mixed-none, past, spanned-skip, spanned-step, spanned-units}
-
--- ---- least
-
-pub least-first : (a b : ℕ) → a < b → a ≡ min a b
-least-first a b h = omega arith
-
-pub least-second : (a b : ℕ) → b ≤ a → b ≡ min a b
-least-second a b h = omega arith
+use Rattle.mender.proofs.Windows.{mixed-lt, mixed-none, past, spanned-skip, spanned-step}
 
 -- ---- mix
 
@@ -191,9 +182,6 @@ row-added-all f us bs r n h l m d =
           (λ (b : k < n). d .done k b) (le-or-lt n k);
     }
 
-pub row-added-long : (f : ℕ) (us bs r : List ℕ) (n : ℕ) → RowAddedTo us f bs r n → length r ≡ 6
-row-added-long f us bs r n a = a .long
-
 -- the rows before any unit vector is set
 abbrev pub zeros : ℕ → List ℕ
 zeros n = replicate n 0
@@ -223,9 +211,6 @@ units-all e n m h l u = subst (λ (k : ℕ). Units k m) (same n e h l) u
   where
     same : (n e : ℕ) → n ≤ suc e → e < n → n ≡ suc e
     same n e h l = omega arith
-
-pub units-long : (n : ℕ) (m : List (List ℕ)) → Units n m → length m ≡ 6
-units-long n m u = u .long
 
 pub units-turn : (e n : ℕ) (m : List (List ℕ)) → e ≤ 5 → n ≤ e → Units n m → Units (n + 1) (set m n (set (getD m n []) n 1))
 units-turn e n m h l u = units-again n m (omega arith) u
@@ -287,9 +272,6 @@ cleared-all s n p m r i h l hp w b a =
           ∙ Laws.zero-product (at m p k)))
           (λ (g : j < 6). a .done j k (omega arith)) (le-or-lt 6 j);
     }
-
-pub cleared-long : (s : List ℕ) (n p : ℕ) (m r : List (List ℕ)) (i : ℕ) → ClearedTo s n p m r i → length r ≡ 6
-cleared-long s n p m r i a = a .long
 
 -- ---- value
 
@@ -462,9 +444,6 @@ pub summed-all : (n : ℕ) (u v was r : List ℕ) (k : ℕ) → n ≤ k → leng
 summed-all n u v was r k h lu lv a =
     ext-getD 0 r (added u v) (a .long ∙ sym (length-added u v (lu ∙ sym lv) ∙ lu))
     (λ i l. a .done i (omega (arith, a .long)) ∙ sym (added-get u v (lu ∙ sym lv) i))
-
-pub summed-long : (n : ℕ) (u v was r : List ℕ) (k : ℕ) → SummedTo n u v was r k → length r ≡ n
-summed-long n u v was r k a = a .long
 
 -- ---- kernel
 

@@ -1,6 +1,6 @@
 -- Mending: the errors that have given power sums, and the nearest word with given sums, or with all of them 0.
 use mathlib.Core.Path.{_≡_}
-use mathlib.Core.Bool.{Bool, true, false}
+use mathlib.Core.Bool.{true, false}
 use mathlib.Core.List.{List}
 use Prim.Native.Nat.{ℕ, min, _+_, _/_, _<_, _≤_}
 use lib.ListN.{length, getD, replicate}

@@ -298,7 +298,7 @@ fn agree(s: [u8; 11], t: [u8; 11], c: usize) -> bool
 }
 
 // Two lists of sums added.
-fn sums_added(u: [u8; 11], v: [u8; 11]) -> [u8; 11]
+pub fn sums_added(u: [u8; 11], v: [u8; 11]) -> [u8; 11]
     ensures { λ r. ⌜ r ≡ added u v ⌝ }
 {
     let mut r = u;

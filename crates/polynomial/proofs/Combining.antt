@@ -7,7 +7,7 @@ use native.Mathlib.Omega.{arith}
 use lib.ListN.{getD}
 use Rattle.field.specs.Field.{sum, product, power}
 use Rattle.field.proofs.Laws
-use Rattle.polynomial.specs.Sums.{moment, nonzero, weight, Places, Values, Zeros}
+use Rattle.polynomial.specs.Sums.{moment, weight, Places, Values, Zeros}
 use Rattle.polynomial.specs.Polynomial.{polyAt, combined, scaled}
 use Rattle.polynomial.proofs.Vandermonde.{nonzero-product, vandermonde}
 

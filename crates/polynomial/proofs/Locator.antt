@@ -1,7 +1,7 @@
 -- The locator of some values, the product of x + X over their places: it combines every run of their sums to 0, and is not 0.
-use mathlib.Core.Path.{_≡_, refl, sym, ap, ap₂, _∙_}
+use mathlib.Core.Path.{_≡_, refl, sym, ap, _∙_}
 use mathlib.Core.List.{List, [], _∷_}
-use Prim.Native.Nat.{ℕ, zero, suc, _+_, _<_, _≤_}
+use Prim.Native.Nat.{ℕ, zero, suc, _+_, _<_}
 use native.Mathlib.Nat.{zero-add}
 use native.Mathlib.Numerals.{one-add}
 use native.Mathlib.Omega.{arith}
@@ -9,7 +9,7 @@ use lib.ListN.{length, getD}
 use Rattle.numbers.proofs.Cases.{pos-of-not-zero}
 use Rattle.field.specs.Field.{sum, product}
 use Rattle.field.proofs.Laws
-use Rattle.polynomial.specs.Sums.{moment, nonzero, weight, Places, Values, Zeros}
+use Rattle.polynomial.specs.Sums.{nonzero, weight, Places, Values, Zeros}
 use Rattle.polynomial.specs.Polynomial.{polyAt, Elements, combined, scaled, carried, rootAdded, locator}
 use Rattle.polynomial.proofs.Vandermonde.{zeros-moment}
 use Rattle.polynomial.proofs.Combining.{scaled-moment}

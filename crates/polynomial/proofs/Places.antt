@@ -3,7 +3,6 @@ use mathlib.Core.Path.{_≡_, refl, sym, ap}
 use mathlib.Core.List.{List, [], _∷_}
 use Prim.Native.Nat.{ℕ, zero, suc, _<_}
 use native.Mathlib.Nat.{not-suc-le-zero, le-of-suc-le-suc}
-use native.Mathlib.Omega.{arith}
 use lib.ListN.{length, getD}
 use Rattle.polynomial.specs.Sums.{Fresh, Places, Values}
 
@@ -29,16 +28,9 @@ places-differ (x ∷ xs) zero (suc k) p hi hk d e = fresh-at x xs k (p .2) (le-o
 places-differ (x ∷ xs) (suc i) zero p hi hk d e = fresh-at x xs i (p .2) (le-of-suc-le-suc hi) e
 places-differ (x ∷ xs) (suc i) (suc k) p hi hk d e = places-differ xs i k (p .3) (le-of-suc-le-suc hi) (le-of-suc-le-suc hk) (λ q. d (ap suc q)) e
 
--- there are as many values as places, and each is an element
+-- there are as many values as places
 pub values-long : (vs xs : List ℕ) → Values vs xs → length vs ≡ length xs
 values-long [] [] f = refl
 values-long [] (x ∷ xs) f = absurd f
 values-long (v ∷ vs) [] f = absurd f
 values-long (v ∷ vs) (x ∷ xs) f = ap suc (values-long vs xs (f .1))
-
-pub value-lt : (vs xs : List ℕ) (i : ℕ) → Values vs xs → getD vs i 0 < 64
-value-lt [] [] i f = omega arith
-value-lt [] (x ∷ xs) i f = absurd f
-value-lt (v ∷ vs) [] i f = absurd f
-value-lt (v ∷ vs) (x ∷ xs) zero f = f .0
-value-lt (v ∷ vs) (x ∷ xs) (suc i) f = value-lt vs xs i (f .1)

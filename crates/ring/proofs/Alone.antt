@@ -7,7 +7,7 @@ use native.Mathlib.Omega.{arith}
 use lib.ListN.{length}
 use Rattle.polynomial.specs.Sums.{weight}
 use Rattle.code.specs.Word.{Clean, added, marks, Line, distance}
-use Rattle.code.proofs.Words.{length-added, added-comm, added-assoc, added-twice, added-zeros}
+use Rattle.code.proofs.Words.{length-added, added-comm, added-four, added-twice, added-zeros}
 use Rattle.code.proofs.Distances.{weight-added, distance-weight, distance-comm, distance-self, distance-both, triangle}
 use Rattle.code.proofs.Lines.{clean-light, clean-added, clean-line, marks-long, unmarked, line-long}
 use Rattle.line.specs.Promises.{Within}
@@ -15,12 +15,6 @@ use Rattle.ring.specs.Ring.{placed, Start}
 use Rattle.ring.specs.Inside.{seen}
 use Rattle.ring.proofs.Placing.{kept, seen-placed, seen-lt, seen-zero}
 use Rattle.ring.proofs.Marks.{marks-far, marks-most}
-
-added-four : (a b c d : List ℕ) → added (added a b) (added c d) ≡ added (added a c) (added b d)
-added-four a b c d =
-    added-assoc a b (added c d)
-    ∙ ap (added a) (sym (added-assoc b c d) ∙ ap (λ (w : List ℕ). added w d) (added-comm b c) ∙ added-assoc c b d)
-    ∙ sym (added-assoc a c (added b d))
 
 -- ---- a word w near a line, and its word at start j near another
 

@@ -14,9 +14,6 @@ use Rattle.field.proofs.Laws
 use Rattle.polynomial.specs.Sums.{nonzero, weight}
 use Rattle.code.specs.Word.{Characters, powerSum, marks, distance, listed, turned, reversed}
 use Rattle.code.specs.Inside.{PowerSums}
-use Rattle.code.proofs.Words.{listed-long, listed-get}
-use Rattle.code.proofs.Sums.{powerSum-at}
-use Rattle.code.proofs.Horner.{horner, horner-word}
 use Rattle.code.proofs.Lines.{marks-long, marks-characters}
 use Rattle.code.proofs.Turning
 use Rattle.ring.specs.Ring.{placed}
@@ -131,12 +128,3 @@ next-sums k s r d p t =
           t .entry i h ∙ ap (λ (x : ℕ). product x (power α ((58 + i) * 62))) (p .sum-at i h)
           ∙ Laws.product-comm (powerSum (58 + i) (marksAt k)) (power α ((58 + i) * 62)) ∙ sym (Turning.powerSum-turned (58 + i) 62 (marksAt k));
     })
-
--- the power sums of any word by Horner's rule
-pub horner-sums : (w : List ℕ) → PowerSums w (listed (λ k. horner (power α (58 + k)) w 63) 0 11)
-horner-sums w =
-    record {
-      long = listed-long (λ k. horner (power α (58 + k)) w 63) 0 11;
-      sum-at = λ k h.
-          listed-get (λ k. horner (power α (58 + k)) w 63) 11 k h ∙ horner-word (power α (58 + k)) w ∙ sym (powerSum-at (58 + k) w);
-    }

@@ -99,7 +99,7 @@ fn list_starts(ring: &[u8], radius: u8, output: &mut [u8]) -> u8
     let mut count: u8 = 0;
     let mut start: u8 = 0;
     while start < 126 {
-        let listed = mendable(sums_added(sums, marks), radius);
+        let listed = mendable(mender::sums_added(sums, marks), radius);
         let after = next_marks(marks, start);
         marks = after;
         if listed {
@@ -156,19 +156,6 @@ fn turned_back(sums: [u8; 11]) -> [u8; 11]
         r[i] = field::times(r[i], x);
         x = field::times(x, POWER_BACK);
         i += 1;
-    }
-    r
-}
-
-// Two lists of sums added.
-fn sums_added(u: [u8; 11], v: [u8; 11]) -> [u8; 11]
-    ensures { λ r. ⌜ r ≡ added u v ⌝ }
-{
-    let mut r = u;
-    let mut k: usize = 0;
-    while k < 11 {
-        r[k] = r[k] ^ v[k];
-        k += 1;
     }
     r
 }

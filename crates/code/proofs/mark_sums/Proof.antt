@@ -1,13 +1,13 @@
 -- The eleven numbers are compared with what Horner's rule gives at the marks.
 use Rattle.field.specs.Field.{sum, timesX, shifted, product, power}
 use Rattle.code.specs.Word.{marks, listed}
-use Rattle.code.proofs.Horner.{horner, mark-sums}
+use Rattle.code.proofs.Horner.{horner, horner-sums}
 use Rattle.code.proofs.mark_sums.Statement.{statement}
 use Rattle.code.proofs.mark_sums.Tie as tie
 
 returns : tie.Need-returns
 unfolding listed horner marks power product shifted timesX sum
-returns c = mark-sums
+returns c = horner-sums marks
 
 pub mark-sums-spec : {M : Type 1} → statement M
 mark-sums-spec = tie.close (tie.spec returns)

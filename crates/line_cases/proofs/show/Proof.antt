@@ -11,81 +11,27 @@ Inv-loop answer number distance output i₀ t9 i = i ≤ length output
 abbrev μ-loop : tie.MeasureT-loop
 μ-loop answer number distance output i₀ t9 i = length output - i
 
-print-decimal-requires : tie.Need-print-decimal-requires Inv-loop μ-loop
-print-decimal-requires c κs = search needs
-
-slice-aggregate-write-all : tie.Need-slice-aggregate-write-all Inv-loop μ-loop
-slice-aggregate-write-all c = search needs
-
-write-all-requires : tie.Need-write-all-requires Inv-loop μ-loop
-write-all-requires c κs = search needs
-
-print-decimal-requires-2 : tie.Need-print-decimal-requires-2 Inv-loop μ-loop
-print-decimal-requires-2 c κs = search needs
-
-slice-aggregate-write-all-2 : tie.Need-slice-aggregate-write-all-2 Inv-loop μ-loop
-slice-aggregate-write-all-2 c = search needs
-
-write-all-requires-2 : tie.Need-write-all-requires-2 Inv-loop μ-loop
-write-all-requires-2 c κs = search needs
-
-print-decimal-requires-3 : tie.Need-print-decimal-requires-3 Inv-loop μ-loop
-print-decimal-requires-3 c κs = search needs
-
-slice-aggregate-write-all-3 : tie.Need-slice-aggregate-write-all-3 Inv-loop μ-loop
-slice-aggregate-write-all-3 c = search needs
-
-write-all-requires-3 : tie.Need-write-all-requires-3 Inv-loop μ-loop
-write-all-requires-3 c κs = search needs
-
-loop-holds : tie.Need-loop-holds Inv-loop μ-loop
-loop-holds c = search needs
-
-shared-slice-read-show-byte : tie.Need-shared-slice-read-show-byte Inv-loop μ-loop
-shared-slice-read-show-byte c = search needs
-
-show-byte-requires : tie.Need-show-byte-requires Inv-loop μ-loop
-show-byte-requires c κs = search needs
-
-add-i : tie.Need-add-i Inv-loop μ-loop
-add-i c = search needs
-
-loop-less : tie.Need-loop-less Inv-loop μ-loop
-loop-less c = search needs
-
-loop-again : tie.Need-loop-again Inv-loop μ-loop
-loop-again c = search needs
-
-slice-aggregate-write-all-4 : tie.Need-slice-aggregate-write-all-4 Inv-loop μ-loop
-slice-aggregate-write-all-4 c = search needs
-
-write-all-requires-4 : tie.Need-write-all-requires-4 Inv-loop μ-loop
-write-all-requires-4 c κs = search needs
-
-returns : tie.Need-returns Inv-loop μ-loop
-returns c = search needs
-
 pub show-spec : {M : Type 1} → statement M
 show-spec =
     tie.close
     (tie.spec
     Inv-loop
     μ-loop
-    print-decimal-requires
-    slice-aggregate-write-all
-    write-all-requires
-    print-decimal-requires-2
-    slice-aggregate-write-all-2
-    write-all-requires-2
-    print-decimal-requires-3
-    slice-aggregate-write-all-3
-    write-all-requires-3
-    loop-holds
-    shared-slice-read-show-byte
-    show-byte-requires
-    add-i
-    loop-less
-    loop-again
-    slice-aggregate-write-all-4
-    write-all-requires-4
-    returns)
+    (λ c κs. search needs)
+    (λ c. search needs)
+    (λ c κs. search needs)
+    (λ c κs. search needs)
+    (λ c. search needs)
+    (λ c κs. search needs)
+    (λ c κs. search needs)
+    (λ c. search needs)
+    (λ c κs. search needs)
+    (λ c. search needs)
+    (λ c. search needs)
+    (λ c κs. search needs)
+    (λ c. search needs)
+    (λ c. search needs)
+    (λ c. search needs)
+    (λ c. search needs)
+    (λ c κs. search needs)
+    (λ c. search needs))

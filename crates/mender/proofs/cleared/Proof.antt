@@ -5,7 +5,7 @@ use mathlib.Core.Path.{_≡_}
 use mathlib.Core.List.{[]}
 use lib.ListN.{getD}
 use Rattle.mender.specs.Inside.{mixed, at}
-use Rattle.mender.proofs.Turns.{ClearedTo, cleared-none, cleared-again, cleared-all, cleared-long}
+use Rattle.mender.proofs.Turns.{ClearedTo, cleared-none, cleared-again, cleared-all}
 use Rattle.mender.proofs.cleared.Statement.{statement}
 use Rattle.mender.proofs.cleared.Tie as tie
 

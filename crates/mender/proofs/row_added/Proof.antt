@@ -1,7 +1,7 @@
 -- `mender::row_added` meets its contract: the entries passed so far have the multiple added.
 use borrow.Author.Needs.{needs}
 use Prim.Native.Nat.{_≤_, _-_}
-use Rattle.mender.proofs.Turns.{RowAddedTo, row-added-none, row-added-again, row-added-all, row-added-long}
+use Rattle.mender.proofs.Turns.{RowAddedTo, row-added-none, row-added-again, row-added-all}
 use Rattle.mender.proofs.row_added.Statement.{statement}
 use Rattle.mender.proofs.row_added.Tie as tie
 

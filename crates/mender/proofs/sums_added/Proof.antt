@@ -1,7 +1,7 @@
 -- `mender::sums_added` meets its contract: the entries passed so far are added.
 use borrow.Author.Needs.{needs}
 use Prim.Native.Nat.{_≤_, _-_}
-use Rattle.mender.proofs.Turns.{SummedTo, summed-none, summed-first, summed-all, summed-long}
+use Rattle.mender.proofs.Turns.{SummedTo, summed-none, summed-first, summed-all}
 use Rattle.mender.proofs.sums_added.Statement.{statement}
 use Rattle.mender.proofs.sums_added.Tie as tie
 

@@ -2,7 +2,7 @@
 use borrow.Author.Needs.{needs}
 use Prim.Native.Nat.{suc, _≤_, _-_}
 use Rattle.mender.specs.Inside.{Units}
-use Rattle.mender.proofs.Turns.{units-none, units-turn, units-all, units-long}
+use Rattle.mender.proofs.Turns.{units-none, units-turn, units-all}
 use Rattle.mender.proofs.units.Statement.{statement}
 use Rattle.mender.proofs.units.Tie as tie
 

@@ -1,8 +1,7 @@
 -- The eleven numbers are compared with what Horner's rule gives at the marks read backward from place 0.
 use Rattle.field.specs.Field.{sum, timesX, shifted, product, power}
 use Rattle.code.specs.Word.{marks, listed, reversed}
-use Rattle.code.proofs.Horner.{horner}
-use Rattle.ring.proofs.Marks.{horner-sums}
+use Rattle.code.proofs.Horner.{horner, horner-sums}
 use Rattle.ring.proofs.backward_marks.Statement.{statement}
 use Rattle.ring.proofs.backward_marks.Tie as tie
 

@@ -11,9 +11,6 @@ returns c = search (list-other-length, needs)
 returns-2 : tie.Need-returns-2
 returns-2 c = search (list-other-room, needs)
 
-in-range-requires : tie.Need-in-range-requires
-in-range-requires c κs = search needs
-
 returns-3 : tie.Need-returns-3
 returns-3 c = search (list-out-of-range, not-true, needs)
 
@@ -22,9 +19,6 @@ returns-4 c = search (list-radius-over, not-false, needs)
 
 list-starts-requires : tie.Need-list-starts-requires
 list-starts-requires c κs = search (listable, not-false, needs)
-
-same-length : tie.Need-same-length
-same-length c = search needs
 
 returns-5 : tie.Need-returns-5
 returns-5 c = search (the-list, not-false, needs)
@@ -35,9 +29,9 @@ list-ring-spec =
     (tie.spec
     returns
     returns-2
-    in-range-requires
+    (λ c κs. search needs)
     returns-3
     returns-4
     list-starts-requires
-    same-length
+    (λ c. search needs)
     returns-5)

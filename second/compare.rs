@@ -1,7 +1,7 @@
 //! The comparison: random trays are handed to the tray program, and what it prints is held, byte for byte, against the report made here.
 //!
-//! A tray is known by a seed and its number. It is the same in every run, whichever other trays are made. Its items are clean, damaged about as far as
-//! its radius reaches, or garbage. The file is then left whole, cut, lengthened or miscounted.
+//! A tray is known by a seed and its number. It is the same in every run, whichever other trays are made. Its items are clean, damaged about as
+//! far as its radius reaches, or garbage. The file is then left whole, cut, lengthened or miscounted.
 
 use crate::block::{encoded, flipped};
 use crate::code::{added, marks, with_errors, Code};
@@ -31,7 +31,7 @@ impl Tray<'_> {
         random_line(self.code, &mut self.random)
     }
 
-    /// As many wrong characters as the radius reaches, one more, or any number up to twelve; some beside each other, some all of one value.
+    /// Up to as many wrong characters as the radius reaches, one more, or any number up to twelve; at times beside each other, or of one value.
     fn errors(&mut self) -> Vec<(usize, u8)> {
         let radius = self.radius.min(5) as usize;
         let count = match self.random.below(8) {
@@ -66,7 +66,7 @@ impl Tray<'_> {
         with_errors(&line, &errors[..self.random.below(13)])
     }
 
-    /// Sums that follow a recurrence of up to five terms, any or with all its roots among the places; the last sum may be another.
+    /// A word whose sums follow a recurrence of up to five terms, any or with all its roots among the places; the last sum may be another.
     fn following_a_recurrence(&mut self) -> Vec<u8> {
         let length = 1 + self.random.below(5);
         let recurrence = match self.random.below(2) {
@@ -276,7 +276,8 @@ impl Tally {
     }
 
     fn answers(&self, kind: &str) -> String {
-        let each: Vec<String> = self.0.iter().filter(|((k, _), _)| k == kind).map(|((_, answer), count)| format!("{answer}: {count}")).collect();
+        let of_kind = self.0.iter().filter(|((k, _), _)| k == kind);
+        let each: Vec<String> = of_kind.map(|((_, answer), count)| format!("{answer}: {count}")).collect();
         each.join(", ")
     }
 
@@ -288,6 +289,12 @@ impl Tally {
     }
 }
 
+/// The line that begins at an offset, with its newline, if it has one.
+fn line_at(report: &[u8], start: usize) -> String {
+    let line = report[start..].split_inclusive(|&c| c == b'\n').next();
+    line.map_or("(nothing)".to_string(), |line| line.escape_ascii().to_string())
+}
+
 /// Where two reports first differ, with the line of each at that place.
 fn difference(printed: &[u8], due: &[u8]) -> Option<String> {
     if printed == due {
@@ -295,8 +302,8 @@ fn difference(printed: &[u8], due: &[u8]) -> Option<String> {
     }
     let at = printed.iter().zip(due).position(|(x, y)| x != y).unwrap_or(printed.len().min(due.len()));
     let start = due[..at].iter().rposition(|&c| c == b'\n').map_or(0, |i| i + 1);
-    let line = |report: &[u8]| report[start..].split_inclusive(|&c| c == b'\n').next().map_or("(nothing)".to_string(), |line| line.escape_ascii().to_string());
-    Some(format!("differ at offset {at}:\n    tray program:   {}\n    second program: {}", line(printed), line(due)))
+    let (one, other) = (line_at(printed, start), line_at(due, start));
+    Some(format!("differ at offset {at}:\n    tray program:   {one}\n    second program: {other}"))
 }
 
 /// Compares so many trays of a seed, from one number on: a summary, or the first difference.

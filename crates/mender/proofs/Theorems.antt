@@ -13,6 +13,7 @@ use Rattle.polynomial.proofs.Theorems.{vanishing-sums}
 use Rattle.code.specs.Word.{powerSum, Clean, added, distance}
 use Rattle.code.proofs.Words.{length-added, characters-added, added-zeros}
 use Rattle.code.proofs.Distances.{weight-added, distance-comm, triangle, distance-weight}
+use Rattle.code.proofs.Theorems.{one-clean-near}
 use Rattle.code.proofs.Sums.{places, places-good, values-63, powerSum-moment, powerSum-added}
 use Rattle.mender.specs.declared.Mended.{Mended}
 use Rattle.mender.specs.Mender.{Fits, MendsTo, Mends, Word, Nearest, HasSums, NearestWith, NearestClean}
@@ -83,3 +84,7 @@ one-with-sums s w u v y f g a b =
 pub one-nearest-with : (s w : List ℕ) (e : ℕ) (m n : Mended) → NearestWith s w e m → NearestWith s w e n → m ≡ n
 one-nearest-with s w e m n =
     one-nearest (HasSums s) w (min e 5) m n (λ y u v f g a b. one-with-sums s w u v y f g (omega arith) (omega arith))
+
+pub one-nearest-clean : (w : List ℕ) (e : ℕ) (m n : Mended) → NearestClean w e m → NearestClean w e n → m ≡ n
+one-nearest-clean w e m n =
+    one-nearest Clean w (min e 5) m n (λ y u v f g a b. one-clean-near w u v (min e 5) (y .long) (omega arith) f g a b)

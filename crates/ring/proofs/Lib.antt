@@ -1,0 +1,9 @@
+-- The laws of starts and of the marks at them, the turns of the code, the ways out of listing and reading, and the theorems.
+pub mod Placing
+pub mod Marks
+pub mod Alone
+pub mod Those
+pub mod Starts
+pub mod Turns
+pub mod Ways
+pub mod Theorems

@@ -1,0 +1,98 @@
+-- The numbers of a range that have a property, listed: there is one list, it holds them all and no others, and it rises.
+use mathlib.Core.Path.{_≡_, refl, sym, ap, subst}
+use mathlib.Core.Logic.{_⊎_, ⊎-elim}
+use mathlib.Core.List.{List, [], _∷_}
+use Prim.Native.Nat.{ℕ, zero, suc, _+_, _<_, _≤_}
+use native.Mathlib.Nat.{eq-or-lt-of-le, not-suc-le-zero, le-of-suc-le-suc}
+use native.Mathlib.Omega.{arith}
+use lib.ListN.{length, getD}
+use Rattle.code.specs.Word as Word
+use Rattle.ring.specs.Ring.{Those, end, listed, not-listed}
+
+pub one-those : {P : ℕ → Type 0} {n k : ℕ} {a b : List ℕ} → Those P n k a → Those P n k b → a ≡ b
+one-those end end = refl
+one-those (listed {k = k} p s) (listed q t) = ap (λ (l : List ℕ). k ∷ l) (one-those s t)
+one-those (listed p s) (not-listed q t) = absurd (q p)
+one-those (not-listed p s) (listed q t) = absurd (p q)
+one-those (not-listed p s) (not-listed q t) = one-those s t
+
+-- ---- what a list holds
+
+-- each entry is one of the n numbers from k on, and has the property
+pub record Entry (P : ℕ → Type 0) (n k j : ℕ) : Type 0 where
+  pub least : k ≤ j
+  pub most : j < k + n
+  pub has : P j
+
+pub those-entry : {P : ℕ → Type 0} {n k : ℕ} {ks : List ℕ} → Those P n k ks → (i : ℕ) → i < length ks → Entry P n k (getD ks i 0)
+those-entry end i h = absurd (not-suc-le-zero h)
+those-entry (listed p s) zero h = record { least = omega arith; most = omega arith; has = p }
+those-entry (listed p s) (suc i) h =
+    let e = those-entry s i (le-of-suc-le-suc h) in
+    record { least = omega arith; most = omega arith; has = e .has }
+those-entry (not-listed p s) i h =
+    let e = those-entry s i h in
+    record { least = omega arith; most = omega arith; has = e .has }
+
+-- the entries rise
+pub those-rise : {P : ℕ → Type 0} {n k : ℕ} {ks : List ℕ} → Those P n k ks → (i j : ℕ) → i < j → j < length ks → getD ks i 0 < getD ks j 0
+those-rise end i j h l = absurd (not-suc-le-zero l)
+those-rise (listed p s) zero zero h l = absurd (omega arith)
+those-rise (listed p s) zero (suc j) h l = those-entry s j (le-of-suc-le-suc l) .least
+those-rise (listed p s) (suc i) zero h l = absurd (omega arith)
+those-rise (listed p s) (suc i) (suc j) h l = those-rise s i j (le-of-suc-le-suc h) (le-of-suc-le-suc l)
+those-rise (not-listed p s) i j h l = those-rise s i j h l
+
+-- each number of the range that has the property is an entry
+pub record At (ks : List ℕ) (j : ℕ) : Type 0 where
+  pub place : ℕ
+  pub inside : place < length ks
+  pub is : getD ks place 0 ≡ j
+
+pub those-all : {P : ℕ → Type 0} {n k : ℕ} {ks : List ℕ} → Those P n k ks → (j : ℕ) → Entry P n k j → At ks j
+those-all end j e = absurd (omega arith)
+those-all (listed {k = k} {ks = ks} p s) j e =
+    ⊎-elim (λ (q : k ≡ j). record { place = 0; inside = omega arith; is = q })
+    (λ (l : k < j).
+    let r : At ks j = those-all s j (record { least = l; most = omega arith; has = e .has }) in
+    record { place = suc (r .place); inside = omega arith; is = r .is })
+    (eq-or-lt-of-le (e .least))
+those-all {P} (not-listed {k = k} p s) j e =
+    ⊎-elim (λ (q : k ≡ j). absurd (p (subst P (sym q) (e .has))))
+    (λ (l : k < j). those-all s j (record { least = l; most = omega arith; has = e .has })) (eq-or-lt-of-le (e .least))
+
+pub those-long : {P : ℕ → Type 0} {n k : ℕ} {ks : List ℕ} → Those P n k ks → length ks ≤ n
+those-long end = omega arith
+those-long (listed p s) = let r = those-long s in omega arith
+those-long (not-listed p s) = let r = those-long s in omega arith
+
+-- ---- none has the property, one has it, all have it
+
+module _ (P : ℕ → Type 0) where
+  pub none-those : (n k : ℕ) → ((j : ℕ) → Entry P n k j → ⊥) → Those P n k []
+  none-those zero k none = end
+  none-those (suc n) k none =
+      not-listed (λ p. none k (record { least = omega arith; most = omega arith; has = p }))
+      (none-those n (suc k) (λ j e. none j (record { least = omega arith; most = omega arith; has = e .has })))
+
+  pub one-of-those : (n k m : ℕ) → Entry P n k m → ((j : ℕ) → Entry P n k j → j ≡ m) → Those P n k (m ∷ [])
+  one-of-those zero k m e only = absurd (omega arith)
+  one-of-those (suc n) k m e only =
+      ⊎-elim
+      (λ (q : k ≡ m).
+      subst (λ (x : ℕ). Those P (suc n) k (x ∷ [])) q
+      (listed (subst P (sym q) (e .has))
+      (none-those n (suc k)
+      (λ j d.
+      let z : j ≡ m = only j (record { least = omega arith; most = omega arith; has = d .has }) in
+      omega arith))))
+      (λ (l : k < m).
+      not-listed (λ p. let z : k ≡ m = only k (record { least = omega arith; most = omega arith; has = p }) in omega arith)
+      (one-of-those n (suc k) m (record { least = l; most = omega arith; has = e .has })
+      (λ j d. only j (record { least = omega arith; most = omega arith; has = d .has }))))
+      (eq-or-lt-of-le (e .least))
+
+  pub all-those : (n k : ℕ) → ((j : ℕ) → j < k + n → P j) → Those P n k (Word.listed (λ j. j) k n)
+  unfolding Word.listed
+  all-those zero k p = end
+  all-those (suc n) k p = listed (p k (omega arith)) (all-those n (suc k) (λ j h. p j (omega arith)))

@@ -1,0 +1,14 @@
+-- What the mender finds, or not, is told as it is.
+use borrow.Author.Needs.{needs}
+use Rattle.ring.proofs.Turns.{mend-told}
+use Rattle.ring.proofs.mendable.Statement.{statement}
+use Rattle.ring.proofs.mendable.Tie as tie
+
+mend-requires : tie.Need-mend-requires
+mend-requires c κs = search needs
+
+returns : tie.Need-returns
+returns c = search (mend-told, needs)
+
+pub mendable-spec : {M : Type 1} → statement M
+mendable-spec = tie.close (tie.spec mend-requires returns)

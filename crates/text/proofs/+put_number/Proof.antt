@@ -61,7 +61,9 @@ put-number-returns : (t : ℕ) → put-number-lts.Need-returns (
   put-number-below t,
   put-number.Post,
 ) (put-number-at t) put-number.Post
-put-number-returns t c = search (number-small, needs)
+put-number-returns t c =
+    let h : c .before .before .before .before .before .before .args .n < 10 = omega arith in
+    search (number-small, needs)
 
 put-number-put-number-requires : (t : ℕ) → put-number-lts.Need-put-number-requires (
   put-byte-reads.Asked,

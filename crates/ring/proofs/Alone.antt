@@ -1,5 +1,5 @@
 -- Two lines at two starts of a ring: how near they let the marks at one start be to the marks at the other.
-use mathlib.Core.Path.{_≡_, refl, sym, ap, ap₂, _∙_, subst}
+use mathlib.Core.Path.{_≡_, sym, ap, ap₂, _∙_, subst}
 use mathlib.Core.List.{List}
 use Prim.Native.Nat.{ℕ, _+_, _<_, _≤_}
 use native.Mathlib.Nat.{le-trans, le-of-eq}
@@ -8,10 +8,10 @@ use lib.ListN.{length}
 use Rattle.polynomial.specs.Sums.{weight}
 use Rattle.code.specs.Word.{Clean, added, marks, Line, distance}
 use Rattle.code.proofs.Words.{length-added, added-comm, added-assoc, added-twice, added-zeros}
-use Rattle.code.proofs.Distances.{weight-added, distance-weight, distance-comm, distance-both, triangle}
+use Rattle.code.proofs.Distances.{weight-added, distance-weight, distance-comm, distance-self, distance-both, triangle}
 use Rattle.code.proofs.Lines.{clean-light, clean-added, clean-line, marks-long, unmarked, line-long}
 use Rattle.line.specs.Promises.{Within}
-use Rattle.ring.specs.Ring.{placed}
+use Rattle.ring.specs.Ring.{placed, Start}
 use Rattle.ring.specs.Inside.{seen}
 use Rattle.ring.proofs.Placing.{kept, seen-placed, seen-lt, seen-zero}
 use Rattle.ring.proofs.Marks.{marks-far, marks-most}
@@ -43,7 +43,7 @@ module _ (w l m : List ℕ) (j e t : ℕ) (long : length w ≡ 63) (near : Withi
       let there : length (placed j w) ≡ 63 = kept j .long w in
       let p : distance (placed j l) (placed j w) ≡ distance w l = kept j .apart l w (line-long l (near .line)) long ∙ distance-comm l w in
       let q : distance (placed j l) m ≤ distance (placed j l) (placed j w) + distance (placed j w) m =
-        triangle (placed j l) (placed j w) m (kept j .long l ∙ sym there) (line-long m (other .line) ∙ sym there)
+      triangle (placed j l) (placed j w) m (kept j .long l ∙ sym there) (line-long m (other .line) ∙ sym there)
       in
       let x : distance w l ≤ e = near .near in
       let y : distance (placed j w) m ≤ t = other .near in
@@ -66,8 +66,8 @@ module _ (w l m : List ℕ) (j e t : ℕ) (long : length w ≡ 63) (near : Withi
       let most : distance (placed j marks) marks ≤ 6 = marks-most j h in
       let s : weight (added lines-between marks-between) ≤ weight lines-between + weight marks-between = weight-added lines-between marks-between in
       let same : lines-between ≡ marks-between =
-        added-zeros lines-between marks-between (lines-between-long ∙ sym marks-between-long)
-        (clean-light (added lines-between marks-between) between-clean (omega arith))
+      added-zeros lines-between marks-between (lines-between-long ∙ sym marks-between-long)
+      (clean-light (added lines-between marks-between) between-clean (omega arith))
       in
       le-trans (le-of-eq (q ∙ ap weight (sym same) ∙ sym p)) n
 
@@ -93,7 +93,7 @@ pub line-at : (l : List ℕ) (j : ℕ) → Line l → Within (distance (placed j
 line-at l j line =
     let same : length l ≡ length marks = line-long l line ∙ sym marks-long in
     let there : placed j l ≡ added (placed j (added l marks)) (placed j marks) =
-      ap (placed j) (sym (added-twice l marks same)) ∙ kept j .adds (added l marks) marks (unmarked l line .long ∙ sym marks-long)
+    ap (placed j) (sym (added-twice l marks same)) ∙ kept j .adds (added l marks) marks (unmarked l line .long ∙ sym marks-long)
     in
     record {
       line = clean-line (placed j (added l marks)) (kept j .cleans (added l marks) (unmarked l line));
@@ -104,3 +104,23 @@ line-at l j line =
     both c h =
         ap₂ distance (added-comm c (placed j marks)) (added-comm c marks)
         ∙ distance-both (placed j marks) marks c (kept j .long marks ∙ sym h) (marks-long ∙ sym h)
+
+-- so where the word at start m is a line, start k is listed exactly where the marks at k, counted from m, lie within the radius of the marks
+module _ (ring : List ℕ) (m k t : ℕ) (long : length ring ≡ 63) (hm : m < 126) (hk : k < 126) (line : Line (placed m ring)) where
+  pub marks-of-start : t ≤ 5 → Start t ring k → distance (placed (seen m k) marks) marks ≤ t
+  marks-of-start small (n, other) =
+      let near : distance (placed (seen m k) marks) marks ≤ 0 + t =
+      starts-near ring (placed m ring) n m k 0 t long hm hk (record { line = line; near = le-of-eq (distance-self (placed m ring)) }) other (omega arith)
+      in
+      omega arith
+
+  pub start-of-marks : distance (placed (seen m k) marks) marks ≤ t → Start t ring k
+  start-of-marks h =
+      let w = line-at (placed m ring) (seen m k) line in (
+        added (placed (seen m k) (added (placed m ring) marks)) marks,
+        record {
+          line = w .line;
+          near = le-trans (le-of-eq (ap (λ (x : List ℕ). distance x (added (placed (seen m k) (added (placed m ring) marks)) marks)) (sym (seen-placed m k ring hm hk))))
+              (le-trans (w .near) h);
+        },
+      )

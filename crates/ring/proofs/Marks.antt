@@ -1,5 +1,5 @@
 -- The marks at a start: how far they lie from the marks, and their power sums from one start to the next.
-use mathlib.Core.Path.{_≡_, refl, sym, ap, ap₂, _∙_, subst}
+use mathlib.Core.Path.{_≡_, refl, sym, ap, _∙_, subst}
 use mathlib.Core.Logic.{⊎-elim}
 use mathlib.Core.List.{List, [], _∷_}
 use Prim.Native.Nat.{ℕ, zero, suc, _+_, _-_, _*_, _%_, _<_, _≤_}
@@ -9,10 +9,10 @@ use lib.Dec.{T, eqb, eqb→eq, leb, leb→le}
 use lib.ListN.{length, getD, replicate, set}
 use Rattle.numbers.proofs.Cases.{le-or-lt}
 use Rattle.numbers.proofs.Range.{both, both-left, both-right, each, each-at}
-use Rattle.field.specs.Field.{sum, timesX, shifted, product, α, power}
+use Rattle.field.specs.Field.{product, α, power}
 use Rattle.field.proofs.Laws
 use Rattle.polynomial.specs.Sums.{nonzero, weight}
-use Rattle.code.specs.Word.{Characters, powerSum, added, marks, distance, listed, turned, reversed}
+use Rattle.code.specs.Word.{Characters, powerSum, marks, distance, listed, turned, reversed}
 use Rattle.code.specs.Inside.{PowerSums}
 use Rattle.code.proofs.Words.{listed-long, listed-get}
 use Rattle.code.proofs.Sums.{powerSum-at}

@@ -6,14 +6,14 @@ use mathlib.Core.List.{List}
 use Prim.Native.Nat.{ℕ, _+_, _-_, _%_, _<_, _≤_}
 use native.Mathlib.Omega.{arith}
 use lib.Dec.{ltb}
-use lib.ListN.{length, getD}
+use lib.ListN.{length}
 use borrow.Author.Tests.{lt-ltb, le-ltb}
 use Rattle.numbers.proofs.Cases.{le-or-lt}
 use Rattle.polynomial.specs.Sums.{weight}
 use Rattle.code.specs.Word.{Characters, Clean, added, distance, turned, reversed}
 use Rattle.code.proofs.Turning
 use Rattle.ring.specs.Ring.{placed}
-use Rattle.ring.specs.Inside.{seen, placeOf}
+use Rattle.ring.specs.Inside.{seen}
 
 -- ---- what every start keeps
 

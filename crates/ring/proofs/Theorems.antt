@@ -1,1 +1,197 @@
--- Theorems
+-- What is proved of rings, in the words of the rules: the list, the true start alone, a dark ring, the marks at the starts, and one result.
+use mathlib.Core.Path.{_≡_, refl, sym, ap, ap₂, _∙_}
+use mathlib.Core.Logic.{inl}
+use mathlib.Core.List.{List, [], _∷_, _++_}
+use Prim.Native.Nat.{ℕ, _+_, _<_, _≤_}
+use native.Mathlib.Nat.{le-of-eq}
+use native.Mathlib.Omega.{arith}
+use lib.ListN.{length, getD, replicate, drop}
+use Rattle.refusal.proofs.Laws.{one-refusal, refusal-positive}
+use Rattle.refusal.proofs.Theorems.{one-result, same-numbers}
+use Rattle.polynomial.specs.Sums.{nonzero, weight}
+use Rattle.code.specs.Word.{Characters, marks, Line, number, distance, listed}
+use Rattle.code.proofs.Words.{listed-long}
+use Rattle.code.proofs.Distances.{distance-weight, weight-added}
+use Rattle.code.proofs.Theorems.{zero-line}
+use Rattle.line.specs.Promises.{Within}
+use Rattle.line.proofs.Theorems.{one-within}
+use Rattle.ring.specs.declared.RingListing.{RingListing}
+use Rattle.ring.specs.declared.RingListing.the-variants as L
+use Rattle.ring.specs.declared.RingReading.{RingReading}
+use Rattle.ring.specs.declared.RingReading.the-variants as R
+use Rattle.ring.specs.Ring.{placed, Start, ListOf}
+use Rattle.ring.specs.Promises.{listingNumbers, readingNumbers, listingTests, Lists, ListsRing, readingTests, ReadsAt, ReadsRing}
+use Rattle.ring.specs.Inside.{seen}
+use Rattle.ring.proofs.Placing.{kept}
+use Rattle.ring.proofs.Marks.{markDistances, mark-distance, marks-weight}
+use Rattle.ring.proofs.Alone.{starts-near, same-start, marks-of-start, start-of-marks}
+use Rattle.ring.proofs.Those.{At, one-those, those-entry, those-rise, those-all, one-of-those, all-those}
+
+-- ---- the list of a ring, damaged, dark or noise
+
+module _ (ring : List ℕ) (t : ℕ) (starts : List ℕ) (these : ListOf t ring starts) where
+  -- each entry is a start that is listed
+  pub entry-listed : (i : ℕ) → i < length starts → (getD starts i 0 < 126) × Start t ring (getD starts i 0)
+  entry-listed i h = let e = those-entry these i h in (e .most, e .has)
+
+  -- each start that is listed is an entry
+  pub listed-entry : (k : ℕ) → k < 126 → Start t ring k → At starts k
+  listed-entry k h s = those-all these k (record { least = omega arith; most = h; has = s })
+
+  -- the entries rise, so each stands there once
+  pub entries-rise : (i j : ℕ) → i < j → j < length starts → getD starts i 0 < getD starts j 0
+  entries-rise = those-rise these
+
+  -- and there is one such list
+  pub one-list : (others : List ℕ) → ListOf t ring others → others ≡ starts
+  one-list others o = one-those o these
+
+-- ---- one result
+
+-- the numbers fix the answer
+one-ring-listing : (r s : RingListing) → listingNumbers r ≡ listingNumbers s → r ≡ s
+one-ring-listing (L.Listed n) (L.Listed m) q = ap L.Listed (ap (λ (l : List ℕ). getD l 1 0) q)
+one-ring-listing (L.Listed n) (L.Refused s) q = absurd (refusal-positive s (sym (ap (λ (l : List ℕ). getD l 0 0) q)))
+one-ring-listing (L.Refused r) (L.Listed m) q = absurd (refusal-positive r (ap (λ (l : List ℕ). getD l 0 0) q))
+one-ring-listing (L.Refused r) (L.Refused s) q = ap L.Refused (one-refusal r s (ap (λ (l : List ℕ). getD l 0 0) q))
+
+one-ring-reading : (r s : RingReading) → readingNumbers r ≡ readingNumbers s → r ≡ s
+one-ring-reading (R.Line k n d) (R.Line j m e) q =
+    ap (λ (x : ℕ). R.Line x n d) (ap (λ (l : List ℕ). getD l 1 0) q)
+    ∙ ap₂ (λ (x y : ℕ). R.Line j x y) (ap (λ (l : List ℕ). getD l 2 0) q) (ap (λ (l : List ℕ). getD l 3 0) q)
+one-ring-reading (R.Line k n d) (R.Refused s) q = absurd (refusal-positive s (sym (ap (λ (l : List ℕ). getD l 0 0) q)))
+one-ring-reading (R.Refused r) (R.Line j m e) q = absurd (refusal-positive r (ap (λ (l : List ℕ). getD l 0 0) q))
+one-ring-reading (R.Refused r) (R.Refused s) q = ap R.Refused (one-refusal r s (ap (λ (l : List ℕ). getD l 0 0) q))
+
+module _ (ring : List ℕ) (t : ℕ) where
+  one-listed : (old f g x y : List ℕ) → Lists ring t old f x → Lists ring t old g y → (f ≡ g) × (x ≡ y)
+  one-listed old f g x y p q =
+      let e : p .starts ≡ q .starts = one-those (p .these) (q .these) in
+      (p .count ∙ ap (λ (l : List ℕ). length l ∷ []) e ∙ sym (q .count), p .output ∙ ap (λ (l : List ℕ). l ++ drop (length l) old) e ∙ sym (q .output))
+
+  one-read-at : length ring ≡ 63 → t ≤ 5 → (f g x y : List ℕ) → ReadsAt ring t f x → ReadsAt ring t g y → (f ≡ g) × (x ≡ y)
+  one-read-at long small f g x y p q =
+      let e : p .start ≡ q .start = ap (λ (l : List ℕ). getD l 0 0) (one-those (p .only) (q .only)) in
+      let h : x ≡ y = one-within t (placed (q .start) ring) x y (kept (q .start) .long ring) small (rw e at (p .within)) (q .within) in
+      (p .shows ∙ ap₂ (λ (k : ℕ) (l : List ℕ). k ∷ number l ∷ distance (placed k ring) l ∷ []) e h ∙ sym (q .shows), h)
+
+  -- any two results of listing are equal
+  pub one-listing : (old : List ℕ) (r s : RingListing) (x y : List ℕ) → ListsRing ring t old (listingNumbers r) x → ListsRing ring t old (listingNumbers s) y
+      → (r ≡ s) × (x ≡ y)
+  unfolding ListsRing
+  one-listing old r s x y p q =
+      let e = one-result (listingTests ring t (length old)) (Lists ring t old) 1 (λ _. one-listed old) old (listingNumbers r) (listingNumbers s) x y p q in
+      (one-ring-listing r s (e .0), e .1)
+
+  -- any two results of reading are equal
+  pub one-reading : (old : List ℕ) (r s : RingReading) (x y : List ℕ) → ReadsRing ring t old (readingNumbers r) x → ReadsRing ring t old (readingNumbers s) y
+      → (r ≡ s) × (x ≡ y)
+  unfolding ReadsRing
+  one-reading old r s x y p q =
+      let e = one-result (readingTests ring t (length old)) (ReadsAt ring t) 3 (λ passed. one-read-at (passed .0) (passed .1 .1 .1 .0)) old
+      (readingNumbers r) (readingNumbers s) x y p q in
+      (one-ring-reading r s (e .0), e .1)
+
+  -- and so are any two answers of reading, whatever lay in outputs of one length
+  pub same-reading : (old other : List ℕ) (r s : RingReading) (x y : List ℕ) → length old ≡ length other → ReadsRing ring t old (readingNumbers r) x
+      → ReadsRing ring t other (readingNumbers s) y → r ≡ s
+  unfolding ReadsRing
+  same-reading old other r s x y e p q =
+      one-ring-reading r s
+      (same-numbers (readingTests ring t (length old)) (ReadsAt ring t) 3 (λ passed. one-read-at (passed .0) (passed .1 .1 .1 .0)) old other
+      (readingNumbers r) (readingNumbers s) x y p (rw (sym e) at q))
+
+-- ---- listing and reading, for a ring of 63 characters and a radius of at most 5
+
+module _ (ring : List ℕ) (t : ℕ) (long : length ring ≡ 63) (characters : Characters ring) (small : t ≤ 5) where
+  -- listing yields the list, whatever its length, and leaves the rest of the output
+  pub lists-list : (old starts : List ℕ) → length old ≡ 126 → ListOf t ring starts
+      → ListsRing ring t old (listingNumbers (L.Listed (length starts))) (starts ++ drop (length starts) old)
+  unfolding ListsRing
+  lists-list old starts room these =
+      (inl (long, inl (room, inl (characters, inl (small, refl)))), record { starts = starts; these = these; count = refl; output = refl })
+
+  -- reading yields the line at the one start of a list with one entry
+  pub reads-only-start : (old l : List ℕ) (k : ℕ) → length old ≡ 63 → ListOf t ring (k ∷ []) → Within t (placed k ring) l
+      → ReadsRing ring t old (readingNumbers (R.Line k (number l) (distance (placed k ring) l))) l
+  unfolding ReadsRing
+  reads-only-start old l k room only within = (
+    inl (long, inl (room, inl (characters, inl (small, inl ((k ∷ [], only, omega arith), inl ((k ∷ [], only, omega arith), refl)))))),
+    record { start = k; only = only; within = within; shows = refl },
+  )
+
+-- ---- demand 3: the word at start k lies at distance e from the line l, e is at most the radius t, and e + t at most 3
+
+module _ (ring l : List ℕ) (k e t : ℕ) (long : length ring ≡ 63) (start : k < 126) (line : Line l) (apart : distance (placed k ring) l ≡ e)
+    (within : e ≤ t) (together : e + t ≤ 3) where
+  -- the list is that start alone
+  pub true-start-alone : ListOf t ring (k ∷ [])
+  true-start-alone =
+      one-of-those (Start t ring) 126 0 k
+      (record { least = omega arith; most = start; has = (l, record { line = line; near = omega arith }) })
+      (λ j other.
+      same-start ring l (other .has .0) k j e t long start (other .most) (record { line = line; near = le-of-eq apart }) (other .has .1) together)
+
+  module _ (characters : Characters ring) (old : List ℕ) where
+    -- so every result of listing such a ring is that list
+    pub lists-true-start : length old ≡ 126 → (r : RingListing) (x : List ℕ) → ListsRing ring t old (listingNumbers r) x
+        → (r ≡ L.Listed 1) × (x ≡ k ∷ drop 1 old)
+    lists-true-start room r x p =
+        one-listing ring t old r (L.Listed 1) x (k ∷ drop 1 old) p (lists-list ring t long characters (omega arith) old (k ∷ []) room true-start-alone)
+
+    -- and every result of reading it is that line and that start
+    pub reads-true-start : length old ≡ 63 → (r : RingReading) (x : List ℕ) → ReadsRing ring t old (readingNumbers r) x
+        → (r ≡ R.Line k (number l) e) × (x ≡ l)
+    reads-true-start room r x p =
+        let q = one-reading ring t old r (R.Line k (number l) (distance (placed k ring) l)) x l p
+        (reads-only-start ring t long characters (omega arith) old l k room true-start-alone (record { line = line; near = omega arith })) in
+        (q .0 ∙ ap (R.Line k (number l)) apart, q .1)
+
+-- ---- a dark ring: 63 zeros lie three characters from the marks, which are a line, at every start
+
+zeros-weight : weight (replicate 63 0) ≡ 0
+unfolding weight nonzero
+zeros-weight = refl
+
+pub dark-start : (t k : ℕ) → 3 ≤ t → Start t (replicate 63 0) k
+dark-start t k h = (
+  marks,
+  record {
+    line = zero-line;
+    near =
+        let d = distance-weight (placed k (replicate 63 0)) marks in
+        let a = weight-added (placed k (replicate 63 0)) marks in
+        let z : weight (placed k (replicate 63 0)) ≡ 0 = kept k .weighs (replicate 63 0) refl ∙ zeros-weight in
+        let m = marks-weight in
+        omega arith;
+  },
+)
+
+-- so from radius 3 on its list is that of all 126 starts
+pub dark-ring : (t : ℕ) → 3 ≤ t → ListOf t (replicate 63 0) (listed (λ k. k) 0 126)
+dark-ring t h = all-those (Start t (replicate 63 0)) 126 0 (λ k l. dark-start t k h)
+
+pub dark-count : length (listed (λ k. k) 0 126) ≡ 126
+dark-count = listed-long (λ k. k) 0 126
+
+-- ---- the marks at the starts, on which all this rests
+
+-- how far the marks at start k lie from the marks: 0 at start 0, 4 at 104 107 110 114 117 124, 5 at 3 7 10 53 56 60, and 6 at the others
+pub marks-apart : (k : ℕ) → k < 126 → distance (placed k marks) marks ≡ getD markDistances k 0
+marks-apart = mark-distance
+
+-- two starts m and k with a line within e of the word at the one, and within t of the word at the other, e + t at most 5:
+-- the marks at k, counted from m, lie within e + t of the marks
+pub two-starts : (ring l n : List ℕ) (m k e t : ℕ) → length ring ≡ 63 → m < 126 → k < 126 → Within e (placed m ring) l → Within t (placed k ring) n
+    → e + t ≤ 5 → distance (placed (seen m k) marks) marks ≤ e + t
+two-starts = starts-near
+
+-- and where the word at start m is itself a line, start k is listed exactly when they lie within the radius
+pub record SameAs (P Q : Type 0) : Type 0 where
+  pub to : P → Q
+  pub from : Q → P
+
+pub starts-of-line : (ring : List ℕ) (m k t : ℕ) → length ring ≡ 63 → m < 126 → k < 126 → t ≤ 5 → Line (placed m ring)
+    → SameAs (Start t ring k) (distance (placed (seen m k) marks) marks ≤ t)
+starts-of-line ring m k t long hm hk small line =
+    record { to = marks-of-start ring m k t long hm hk line small; from = start-of-marks ring m k t long hm hk line }

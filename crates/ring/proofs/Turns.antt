@@ -3,11 +3,9 @@ use mathlib.Core.Path.{_≡_, refl, sym, ap, ap₂, _∙_, subst, subst₂}
 use mathlib.Core.Bool.{Bool, true, false, cond}
 use mathlib.Core.Logic.{⊎-elim}
 use mathlib.Core.List.{List, [], _∷_, _++_, append-nil, append-assoc}
-use Prim.Native.Nat.{ℕ, zero, suc, min, _+_, _-_, _*_, _%_, _<_, _≤_}
-use native.Mathlib.Nat.{add-mul}
+use Prim.Native.Nat.{ℕ, suc, _+_, _-_, _*_, _%_, _<_, _≤_}
 use native.Mathlib.Numerals.{add-one}
 use native.Mathlib.Omega.{arith}
-use lib.Dec.{ltb}
 use lib.ListN.{length, getD, set, drop, length-append, length-set}
 use lib.Seq.{drop-cons, set-at, append-snoc, getD-set-same, getD-set-other}
 use borrow.Author.Count.{below-none, below-more}
@@ -16,7 +14,7 @@ use Rattle.numbers.proofs.Cases.{le-or-lt}
 use Rattle.refusal.specs.Promise.{Tells}
 use Rattle.field.specs.Field.{sum, timesX, shifted, product, α, power}
 use Rattle.field.proofs.Laws
-use Rattle.code.specs.Word.{Characters, added, marks}
+use Rattle.code.specs.Word.{added, marks}
 use Rattle.code.specs.Inside.{PowerSums}
 use Rattle.code.proofs.Words.{same-word}
 use Rattle.code.proofs.Turning.{turned-get, reversed-get}
@@ -24,7 +22,7 @@ use Rattle.mender.specs.declared.Mended.{Mended}
 use Rattle.mender.specs.Mender.{Mends, Word}
 use Rattle.ring.specs.Ring.{placed, Start, Those, end, listed, not-listed, ListOf}
 use Rattle.ring.specs.Promises.{Lists}
-use Rattle.ring.specs.Inside.{MarkSums, TurnedBack, Mendable, placeOf}
+use Rattle.ring.specs.Inside.{MarkSums, TurnedBack, Listable, Mendable, placeOf}
 use Rattle.ring.proofs.Placing.{kept, placed-forward, placed-backward}
 use Rattle.ring.proofs.Marks.{first-marks}
 use Rattle.ring.proofs.Starts.{start-told}
@@ -135,31 +133,30 @@ moved : {P : ℕ → Type 0} {n m k j : ℕ} {l : List ℕ} → n ≡ m → k �
 moved {P} {l = l} p q t = subst₂ (λ (n k : ℕ). Those P n k l) p q t
 
 pub record ListedTo (ring : List ℕ) (t : ℕ) (old out sums here : List ℕ) (n k : ℕ) : Type 0 where
-  pub word : Word ring
-  pub small : t ≤ 5
+  pub asked : Listable ring t (length old)
   pub ring-sums : PowerSums ring sums
   pub mark-sums : MarkSums k here
   pub most : k ≤ 126
   pub few : n ≤ k
-  pub room : length old ≡ 126
   pub long : length out ≡ 126
   pub starts : List ℕ
   pub count : n ≡ length starts
   pub output : out ≡ starts ++ drop n old
   pub whole : (more : List ℕ) → Those (Start t ring) (126 - k) k more → ListOf t ring (starts ++ more)
 
-pub listed-none : (ring : List ℕ) (t : ℕ) (old sums here : List ℕ) → length ring ≡ 63 → Characters ring → t ≤ 5 → length old ≡ 126 → PowerSums ring sums
-    → PowerSums marks here → ListedTo ring t old old sums here 0 0
-listed-none ring t old sums here l c small room us ms =
+word-of : {ring : List ℕ} {t room : ℕ} → Listable ring t room → Word ring
+word-of asked = record { long = asked .long; characters = asked .characters }
+
+pub listed-none : (ring : List ℕ) (t : ℕ) (old sums here : List ℕ) → Listable ring t (length old) → PowerSums ring sums → PowerSums marks here
+    → ListedTo ring t old old sums here 0 0
+listed-none ring t old sums here asked us ms =
     record {
-      word = record { long = l; characters = c };
-      small = small;
+      asked = asked;
       ring-sums = us;
       mark-sums = first-marks here ms;
       most = omega arith;
       few = omega arith;
-      room = room;
-      long = room;
+      long = asked .wide;
       starts = [];
       count = refl;
       output = refl;
@@ -169,24 +166,22 @@ listed-none ring t old sums here l c small room us ms =
 module _ (ring : List ℕ) (t : ℕ) (old out sums here : List ℕ) (n k : ℕ) (b : Bool) (d after : List ℕ) (n′ : ℕ) (out′ : List ℕ) (s : ListedTo ring t old out sums here n k) (h : k < 126)
     (ed : d ≡ added sums here) (tells : Tells (Mendable d t) b) (next : MarkSums (k + 1) after) where
   told : Tells (Start t ring k) b
-  told = start-told ring sums here k t (s .word) (s .small) h (s .ring-sums) (s .mark-sums) b (subst (λ (x : List ℕ). Tells (Mendable x t) b) ed tells)
+  told = start-told ring sums here k t (word-of (s .asked)) (s .asked .small) h (s .ring-sums) (s .mark-sums) b (subst (λ (x : List ℕ). Tells (Mendable x t) b) ed tells)
 
   pub listed-one : b ≡ true → n′ ≡ n + 1 → out′ ≡ set out n k → ListedTo ring t old out′ sums after n′ (k + 1)
   listed-one e en eo =
       let c : n ≡ length (s .starts) = s .count in
       let x : set out n k ≡ (s .starts ++ (k ∷ [])) ++ drop (n + 1) old =
-        ap (λ (l : List ℕ). set l n k) (s .output ∙ ap (λ (l : List ℕ). s .starts ++ l) (drop-cons old n 0 (omega (arith, s .room, s .few))))
-        ∙ set-at (s .starts) (getD old n 0) (drop (suc n) old) k n (sym c) ∙ sym (append-snoc (s .starts) k (drop (suc n) old))
-        ∙ ap (λ (j : ℕ). (s .starts ++ (k ∷ [])) ++ drop j old) (sym (add-one n))
+      ap (λ (l : List ℕ). set l n k) (s .output ∙ ap (λ (l : List ℕ). s .starts ++ l) (drop-cons old n 0 (omega (arith, s .asked .wide, s .few))))
+      ∙ set-at (s .starts) (getD old n 0) (drop (suc n) old) k n (sym c) ∙ sym (append-snoc (s .starts) k (drop (suc n) old))
+      ∙ ap (λ (j : ℕ). (s .starts ++ (k ∷ [])) ++ drop j old) (sym (add-one n))
       in
       record {
-        word = s .word;
-        small = s .small;
+        asked = s .asked;
         ring-sums = s .ring-sums;
         mark-sums = next;
         most = omega arith;
         few = omega (arith, s .few);
-        room = s .room;
         long = ap length eo ∙ length-set out n k ∙ s .long;
         starts = s .starts ++ (k ∷ []);
         count = rw (length-append (s .starts) (k ∷ [])) (omega arith);
@@ -197,13 +192,11 @@ module _ (ring : List ℕ) (t : ℕ) (old out sums here : List ℕ) (n k : ℕ) 
   pub listed-not : b ≡ false → n′ ≡ n → out′ ≡ out → ListedTo ring t old out′ sums after n′ (k + 1)
   listed-not e en eo =
       record {
-        word = s .word;
-        small = s .small;
+        asked = s .asked;
         ring-sums = s .ring-sums;
         mark-sums = next;
         most = omega arith;
         few = omega (arith, s .few);
-        room = s .room;
         long = ap length eo ∙ s .long;
         starts = s .starts;
         count = en ∙ s .count;

@@ -3,19 +3,20 @@ use mathlib.Core.Path.{_≡_, refl, sym, ap, ap₂, _∙_, subst}
 use mathlib.Core.Bool.{Bool, true, false}
 use mathlib.Core.Logic.{inl, inr}
 use mathlib.Core.List.{List, [], _∷_, _++_}
-use Prim.Native.Nat.{ℕ, zero, suc, min, _+_, _*_, _%_, _<_, _≤_}
+use Prim.Native.Nat.{ℕ, min, _+_, _*_, _%_, _<_, _≤_}
 use native.Mathlib.Nat.{mod-eq-of-lt}
 use native.Mathlib.Omega.{arith}
 use lib.ListN.{length, getD, drop}
 use Rattle.numbers.proofs.Cases.{pos-of-not-zero}
 use Rattle.refusal.specs.Promise.{Tells}
-use Rattle.code.specs.Word.{Characters, Line, number, distance}
+use Rattle.code.specs.Word.{Characters, Line, distance}
 use Rattle.code.proofs.Lines.{line-characters}
 use Rattle.mender.specs.declared.Mended.{Mended}
-use Rattle.mender.specs.Mender.{Word, Nearest}
+use Rattle.mender.specs.Mender.{Nearest}
 use Rattle.line.specs.Promises.{Within}
 use Rattle.ring.specs.Ring.{placed, Start, ListOf}
 use Rattle.ring.specs.Promises.{Lists, ListsRing, ListHas, ReadsAt, ReadsRing}
+use Rattle.ring.specs.Inside.{Listable}
 use Rattle.ring.proofs.Placing.{kept}
 use Rattle.ring.proofs.Those.{one-those, those-entry}
 
@@ -45,9 +46,9 @@ module _ (ring : List ℕ) (t : ℕ) (old : List ℕ) where
         unfolding ListsRing
         the-list small n new lists = (inl (long, inl (room, inl (range .holds in-range, inl (small, refl)))), lists)
 
--- where the test says so, the characters are in range
-pub characters-told : (w : List ℕ) (b : Bool) → Tells (Characters w) b → b ≡ true → (a : ℕ) → getD w a 0 < 64
-characters-told w b range in-range = range .holds in-range
+-- after the tests the loop over the starts may begin
+pub listable : (ring : List ℕ) (t room : ℕ) (b : Bool) → length ring ≡ 63 → Tells (Characters ring) b → b ≡ true → t ≤ 5 → room ≡ 126 → Listable ring t room
+listable ring t room b long range in-range small wide = record { long = long; characters = range .holds in-range; small = small; wide = wide }
 
 -- ---- the list by its count
 
@@ -109,16 +110,45 @@ module _ (ring : List ℕ) (t : ℕ) (old : List ℕ) where
         module _ (small : t ≤ 5) (before : List ℕ) (n : ℕ) (out : List ℕ) (lists : Lists ring t before (n ∷ []) out) where
           pub no-start : n ≡ 0 → ReadsRing ring t old (6 ∷ 0 ∷ 0 ∷ 0 ∷ []) old
           unfolding ReadsRing
-          no-start e =
-              (inl (long, inl (room, inl (range .holds in-range, inl (small,
-              inr (λ h. let g : 1 ≤ n = list-count ring t before n out lists (λ n. 1 ≤ n) h in omega arith, refl))))), (refl, refl))
+          no-start e = (
+            inl (
+              long,
+              inl (
+                room,
+                inl (
+                  range .holds in-range,
+                  inl (
+                    small,
+                    inr (λ h. let g : 1 ≤ n = list-count ring t before n out lists (λ n. 1 ≤ n) h in omega arith, refl),
+                  ),
+                ),
+              ),
+            ),
+            (refl, refl),
+          )
 
           module _ (some : n ≡ 0 → ⊥) where
             pub many-starts : 1 < n → ReadsRing ring t old (10 ∷ 0 ∷ 0 ∷ 0 ∷ []) old
             unfolding ReadsRing
-            many-starts h =
-                (inl (long, inl (room, inl (range .holds in-range, inl (small, inl (not-empty ring t before n out lists some,
-                inr (λ f. let g : n ≤ 1 = list-count ring t before n out lists (λ n. n ≤ 1) f in omega arith, refl)))))), (refl, refl))
+            many-starts h = (
+              inl (
+                long,
+                inl (
+                  room,
+                  inl (
+                    range .holds in-range,
+                    inl (
+                      small,
+                      inl (
+                        not-empty ring t before n out lists some,
+                        inr (λ f. let g : n ≤ 1 = list-count ring t before n out lists (λ n. n ≤ 1) f in omega arith, refl),
+                      ),
+                    ),
+                  ),
+                ),
+              ),
+              (refl, refl),
+            )
 
             module _ (few : n ≤ 1) (word : List ℕ) (m : Mended) (is : word ≡ placed (getD out 0 0) ring) (nearest : Nearest Line word (min t 5) m) where
               -- the one start is listed, so a line was found there
@@ -147,15 +177,27 @@ module _ (ring : List ℕ) (t : ℕ) (old : List ℕ) where
                   → ReadsRing ring t old (0 ∷ getD out 0 0 ∷ v ∷ m .weight ∷ []) new
               unfolding ReadsRing
               the-line v e new output =
-                  let c = line-characters (m .word) (nearest .is found-here) in
-                  (inl (long, inl (room, inl (range .holds in-range, inl (small,
-                  inl (not-empty ring t before n out lists some, inl (not-many ring t before n out lists some few, refl)))))),
-                  subst (ReadsAt ring t (getD out 0 0 ∷ v ∷ m .weight ∷ [])) (sym output)
-                  (record {
-                    start = getD out 0 0;
-                    only = list-one ring t before n out lists some few;
-                    within = within-here;
-                    shows = ap₂ (λ (x y : ℕ). getD out 0 0 ∷ x ∷ y ∷ [])
-                        (e ∙ ap₂ (λ (x y : ℕ). x * 64 + y) (mod-eq-of-lt (c 50)) (mod-eq-of-lt (c 51)))
-                        (nearest .apart found-here ∙ ap (λ (w : List ℕ). distance w (m .word)) is);
-                  }))
+                  let c = line-characters (m .word) (nearest .is found-here) in (
+                    inl (
+                      long,
+                      inl (
+                        room,
+                        inl (
+                          range .holds in-range,
+                          inl (
+                            small,
+                            inl (not-empty ring t before n out lists some, inl (not-many ring t before n out lists some few, refl)),
+                          ),
+                        ),
+                      ),
+                    ),
+                    subst (ReadsAt ring t (getD out 0 0 ∷ v ∷ m .weight ∷ [])) (sym output)
+                        (record {
+                          start = getD out 0 0;
+                          only = list-one ring t before n out lists some few;
+                          within = within-here;
+                          shows = ap₂ (λ (x y : ℕ). getD out 0 0 ∷ x ∷ y ∷ [])
+                              (e ∙ ap₂ (λ (x y : ℕ). x * 64 + y) (mod-eq-of-lt (c 50)) (mod-eq-of-lt (c 51)))
+                              (nearest .apart found-here ∙ ap (λ (w : List ℕ). distance w (m .word)) is);
+                        }),
+                  )

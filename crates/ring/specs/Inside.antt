@@ -1,12 +1,12 @@
--- What the inner functions of rings promise each other: the marks at a start, their power sums, and whether errors have given sums.
+-- What the inner functions of rings promise each other: the marks at a start, their power sums, whether errors have given sums, and the ring place of an address.
 use mathlib.Core.Path.{_≡_}
 use mathlib.Core.Bool.{cond}
 use mathlib.Core.List.{List}
-use Prim.Native.Nat.{ℕ, min, _+_, _-_, _*_, _%_, _<_}
+use Prim.Native.Nat.{ℕ, min, _+_, _-_, _*_, _%_, _<_, _≤_}
 use lib.Dec.{ltb}
 use lib.ListN.{length, getD}
 use Rattle.field.specs.Field.{product, α, power}
-use Rattle.code.specs.Word.{marks}
+use Rattle.code.specs.Word.{Characters, marks}
 use Rattle.code.specs.Inside.{PowerSums}
 use Rattle.mender.specs.Mender.{Fits}
 use Rattle.ring.specs.Ring.{placed}
@@ -28,6 +28,13 @@ MarkSums k sums = PowerSums (marksAt k) sums
 pub record TurnedBack (sums r : List ℕ) : Type 0 where
   pub long : length r ≡ 11
   pub entry : (i : ℕ) → i < 11 → getD r i 0 ≡ product (getD sums i 0) (power α ((58 + i) * 62))
+
+-- what the loop over the starts asks for: a ring of 63 characters, a radius of at most 5, and room for 126 starts
+pub record Listable (ring : List ℕ) (t room : ℕ) : Type 0 where
+  pub long : length ring ≡ 63
+  pub characters : Characters ring
+  pub small : t ≤ 5
+  pub wide : room ≡ 126
 
 -- at most t errors, t counting up to 5, have these eleven power sums
 abbrev pub Mendable : List ℕ → ℕ → Type 0

@@ -1,14 +1,14 @@
 // Rings: the starts at which a line lies within the radius, and reading the line at the one start.
 ghost use mathlib.Core.Path.{_≡_};
 ghost use mathlib.Core.List.{List, [], _∷_};
-ghost use Prim.Native.Nat.{_+_, _<_, _≤_};
+ghost use Prim.Native.Nat.{_+_, _<_};
 ghost use lib.ListN.{length};
 ghost use Rattle.refusal.specs.Promise.{Tells};
-ghost use Rattle.code.specs.Word.{Characters, added, marks, reversed};
+ghost use Rattle.code.specs.Word.{added, marks, reversed};
 ghost use Rattle.code.specs.Inside.{PowerSums};
 ghost use Rattle.ring.specs.Ring.{placed};
 ghost use Rattle.ring.specs.Promises.{listingNumbers, readingNumbers, Lists, ListsRing, ReadsRing};
-ghost use Rattle.ring.specs.Inside.{MarkSums, TurnedBack, Mendable, placeOf};
+ghost use Rattle.ring.specs.Inside.{MarkSums, TurnedBack, Listable, Mendable, placeOf};
 use refusal::Refusal;
 
 pub enum RingListing {
@@ -17,7 +17,11 @@ pub enum RingListing {
 }
 
 pub enum RingReading {
-    Line { start: u8, number: u16, distance: u8 },
+    Line {
+        start: u8,
+        number: u16,
+        distance: u8,
+    },
     Refused(Refusal),
 }
 
@@ -57,7 +61,7 @@ pub fn read_ring(ring: &[u8], radius: u8, output: &mut [u8]) -> RingReading
     if radius > 5 {
         return RingReading::Refused(Refusal::RadiusOver);
     }
-    let mut starts = [0u8; 126];
+    let mut starts = no_starts();
     let count = list_starts(ring, radius, &mut starts);
     if count == 0 {
         return RingReading::Refused(Refusal::NoLine);
@@ -81,10 +85,7 @@ pub fn read_ring(ring: &[u8], radius: u8, output: &mut [u8]) -> RingReading
 // listed where the ring, with the marks added at that start's places, is within the radius of a clean word. So the ring's power sums are
 // taken once, and to them are added, for each start, those of the marks.
 fn list_starts(ring: &[u8], radius: u8, output: &mut [u8]) -> u8
-    requires { ⌜ length (now ring) ≡ 63 ⌝ }
-    requires { ⌜ Characters (now ring) ⌝ }
-    requires { ⌜ radius ≤ 5 ⌝ }
-    requires { ⌜ length (now output) ≡ 126 ⌝ }
+    requires { ⌜ Listable (now ring) radius (length (now output)) ⌝ }
     ensures { λ r. ⌜ Lists (now (ring .entry)) radius (now (output .entry)) (r ∷ []) (now (output .exit)) ⌝ }
 {
     let sums = code::power_sums(ring);
@@ -103,6 +104,13 @@ fn list_starts(ring: &[u8], radius: u8, output: &mut [u8]) -> u8
         start += 1;
     }
     count
+}
+
+// Room for the starts of a ring.
+fn no_starts() -> [u8; 126]
+    ensures { λ r. ⌜ length r ≡ 126 ⌝ }
+{
+    [0u8; 126]
 }
 
 // Whether errors as many as the radius at most, which counts up to 5, have these power sums.

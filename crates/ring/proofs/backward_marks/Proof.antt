@@ -1,12 +1,10 @@
-use borrow.Author.Needs.{needs}
+-- The eleven numbers are compared with what Horner's rule gives at the marks read backward from place 0.
 use Rattle.field.specs.Field.{sum, timesX, shifted, product, power}
 use Rattle.code.specs.Word.{marks, listed, reversed}
 use Rattle.code.proofs.Horner.{horner}
 use Rattle.ring.proofs.Marks.{horner-sums}
 use Rattle.ring.proofs.backward_marks.Statement.{statement}
 use Rattle.ring.proofs.backward_marks.Tie as tie
-use Rattle.ring.proofs.backward_marks.Reads as reads
-use Rattle.ring.proofs.backward_marks.Lts as lts
 
 returns : tie.Need-returns
 unfolding listed horner marks reversed power product shifted timesX sum

@@ -1,12 +1,9 @@
+-- Each return is one way in which listing ends.
 use borrow.Author.Needs.{needs}
 use borrow.Author.Tests.{not-true, not-false}
-use Rattle.ring.proofs.Ways.{list-other-length, list-other-room, list-out-of-range, list-radius-over, characters-told, the-list}
+use Rattle.ring.proofs.Ways.{list-other-length, list-other-room, list-out-of-range, list-radius-over, listable, the-list}
 use Rattle.ring.proofs.list_ring.Statement.{statement}
 use Rattle.ring.proofs.list_ring.Tie as tie
-use Rattle.ring.proofs.list_ring.Reads as reads
-use Rattle.ring.proofs.list_ring.Lts as lts
-use Rattle.code.proofs.in_range.Reads as in-range-reads
-use Rattle.ring.proofs.list_starts.Reads as list-starts-reads
 
 returns : tie.Need-returns
 returns c = search (list-other-length, needs)
@@ -24,7 +21,7 @@ returns-4 : tie.Need-returns-4
 returns-4 c = search (list-radius-over, not-false, needs)
 
 list-starts-requires : tie.Need-list-starts-requires
-list-starts-requires c κs = search (characters-told, not-false, needs)
+list-starts-requires c κs = search (listable, not-false, needs)
 
 same-length : tie.Need-same-length
 same-length c = search needs

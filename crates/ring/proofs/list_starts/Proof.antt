@@ -1,16 +1,10 @@
+-- The loop keeps that the starts below this one are listed, so that whatever lists the rest completes the list, and that the marks' sums are those of this start.
 use borrow.Author.Needs.{needs}
 use mathlib.Core.Logic.{⊎-elim}
 use Prim.Native.Nat.{_-_}
 use Rattle.ring.proofs.Turns.{ListedTo, listed-none, listed-one, listed-not, listed-all}
 use Rattle.ring.proofs.list_starts.Statement.{statement}
 use Rattle.ring.proofs.list_starts.Tie as tie
-use Rattle.ring.proofs.list_starts.Reads as reads
-use Rattle.ring.proofs.list_starts.Lts as lts
-use Rattle.code.proofs.mark_sums.Reads as mark-sums-reads
-use Rattle.code.proofs.power_sums.Reads as power-sums-reads
-use Rattle.ring.proofs.mendable.Reads as mendable-reads
-use Rattle.ring.proofs.next_marks.Reads as next-marks-reads
-use Rattle.ring.proofs.sums_added.Reads as sums-added-reads
 
 abbrev Inv-loop : tie.InvT-loop
 Inv-loop ring radius output₀ sums marks₀ count₀ start₀ output marks count start = ListedTo ring radius output₀ output sums marks count start

@@ -1,10 +1,8 @@
+-- What the mender finds, or not, is told as it is.
 use borrow.Author.Needs.{needs}
 use Rattle.ring.proofs.Turns.{mend-told}
 use Rattle.ring.proofs.mendable.Statement.{statement}
 use Rattle.ring.proofs.mendable.Tie as tie
-use Rattle.ring.proofs.mendable.Reads as reads
-use Rattle.ring.proofs.mendable.Lts as lts
-use Rattle.mender.proofs.mend.Reads as mend-reads
 
 mend-requires : tie.Need-mend-requires
 mend-requires c κs = search needs

@@ -1,11 +1,8 @@
+-- The marks at the next start are those at this one turned back by one character; the first backward start has its own.
 use borrow.Author.Needs.{needs}
 use Rattle.ring.proofs.Marks.{backward-begins, next-sums}
 use Rattle.ring.proofs.next_marks.Statement.{statement}
 use Rattle.ring.proofs.next_marks.Tie as tie
-use Rattle.ring.proofs.next_marks.Reads as reads
-use Rattle.ring.proofs.next_marks.Lts as lts
-use Rattle.ring.proofs.backward_marks.Reads as backward-marks-reads
-use Rattle.ring.proofs.turned_back.Reads as turned-back-reads
 
 backward-marks-requires : tie.Need-backward-marks-requires
 backward-marks-requires c κs = search needs

@@ -1,9 +1,8 @@
+-- Each return is one of the two directions.
 use borrow.Author.Needs.{needs}
 use Rattle.ring.proofs.Turns.{place-forward, place-backward}
 use Rattle.ring.proofs.place_of.Statement.{statement}
 use Rattle.ring.proofs.place_of.Tie as tie
-use Rattle.ring.proofs.place_of.Reads as reads
-use Rattle.ring.proofs.place_of.Lts as lts
 
 add-result : tie.Need-add-result
 add-result c = search needs

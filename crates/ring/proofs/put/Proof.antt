@@ -1,10 +1,8 @@
+-- A copy over an output of the same length leaves nothing of it.
 use borrow.Author.Needs.{needs}
 use Rattle.line.proofs.Reading.{put-whole}
 use Rattle.ring.proofs.put.Statement.{statement}
 use Rattle.ring.proofs.put.Tie as tie
-use Rattle.ring.proofs.put.Reads as reads
-use Rattle.ring.proofs.put.Lts as lts
-use Rattle.bytes.proofs.copy.Reads as copy-reads
 
 slice-aggregate-copy : tie.Need-slice-aggregate-copy
 slice-aggregate-copy c = search needs

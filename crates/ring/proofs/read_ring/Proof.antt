@@ -1,16 +1,10 @@
+-- Each return is one way in which reading ends.
+use native.Mathlib.Omega.{arith}
 use borrow.Author.Needs.{needs}
 use borrow.Author.Tests.{not-true, not-false}
-use Rattle.ring.proofs.Ways.{characters-told, start-inside, read-other-length, read-other-room, read-out-of-range, read-radius-over, no-start, many-starts, the-line}
+use Rattle.ring.proofs.Ways.{listable, start-inside, read-other-length, read-other-room, read-out-of-range, read-radius-over, no-start, many-starts, the-line}
 use Rattle.ring.proofs.read_ring.Statement.{statement}
 use Rattle.ring.proofs.read_ring.Tie as tie
-use Rattle.ring.proofs.read_ring.Reads as reads
-use Rattle.ring.proofs.read_ring.Lts as lts
-use Rattle.code.proofs.in_range.Reads as in-range-reads
-use Rattle.line.proofs.nearest_line.Reads as nearest-line-reads
-use Rattle.line.proofs.number_of.Reads as number-of-reads
-use Rattle.ring.proofs.list_starts.Reads as list-starts-reads
-use Rattle.ring.proofs.put.Reads as put-reads
-use Rattle.ring.proofs.word_at.Reads as word-at-reads
 
 returns : tie.Need-returns
 returns c = search (read-other-length, needs)
@@ -27,11 +21,16 @@ returns-3 c = search (read-out-of-range, not-true, needs)
 returns-4 : tie.Need-returns-4
 returns-4 c = search (read-radius-over, not-false, needs)
 
+no-starts-requires : tie.Need-no-starts-requires
+no-starts-requires c κs = search needs
+
 slice-aggregate-list-starts : tie.Need-slice-aggregate-list-starts
 slice-aggregate-list-starts c = search needs
 
 list-starts-requires : tie.Need-list-starts-requires
-list-starts-requires c κs = search (characters-told, not-false, needs)
+list-starts-requires c κs =
+    let tests = c .before .before .before in
+    listable _ _ _ _ (omega arith) (tests .before .in-range .ensures) (not-false _ (tests .if3 .left)) (omega arith) (omega arith)
 
 returns-5 : tie.Need-returns-5
 returns-5 c = search (no-start, not-false, needs)
@@ -72,6 +71,7 @@ read-ring-spec =
     in-range-requires
     returns-3
     returns-4
+    no-starts-requires
     slice-aggregate-list-starts
     list-starts-requires
     returns-5

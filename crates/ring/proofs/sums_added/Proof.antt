@@ -1,10 +1,9 @@
+-- The loop keeps that the first k sums are added, and that those after them are as they were.
 use borrow.Author.Needs.{needs}
 use Prim.Native.Nat.{_≤_, _-_}
 use Rattle.mender.proofs.Turns.{SummedTo, summed-none, summed-first, summed-all}
 use Rattle.ring.proofs.sums_added.Statement.{statement}
 use Rattle.ring.proofs.sums_added.Tie as tie
-use Rattle.ring.proofs.sums_added.Reads as reads
-use Rattle.ring.proofs.sums_added.Lts as lts
 
 abbrev Inv-loop : tie.InvT-loop
 Inv-loop v r₀ k₀ r k = (k ≤ 11) × SummedTo 11 r₀ v r₀ r k

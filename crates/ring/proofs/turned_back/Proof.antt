@@ -1,11 +1,9 @@
+-- The loop keeps that the first i sums are multiplied, and that x is the power of α for the next.
 use borrow.Author.Needs.{needs}
 use Prim.Native.Nat.{_-_}
 use Rattle.ring.proofs.Turns.{TurnedTo, turned-none, turned-again, turned-all}
 use Rattle.ring.proofs.turned_back.Statement.{statement}
 use Rattle.ring.proofs.turned_back.Tie as tie
-use Rattle.ring.proofs.turned_back.Reads as reads
-use Rattle.ring.proofs.turned_back.Lts as lts
-use Rattle.field.proofs.times.Reads as times-reads
 
 abbrev Inv-loop : tie.InvT-loop
 Inv-loop r₀ x₀ i₀ r x i = TurnedTo r₀ r x i

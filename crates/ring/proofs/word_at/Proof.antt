@@ -1,3 +1,4 @@
+-- The loop keeps that the first a characters are those of the word at the start.
 use borrow.Author.Needs.{needs}
 use mathlib.Core.Path.{_≡_}
 use Prim.Native.Nat.{_<_, _-_}
@@ -5,9 +6,6 @@ use lib.ListN.{length}
 use Rattle.ring.proofs.Turns.{PlacedTo, placed-start, place-inside, placed-more, placed-all}
 use Rattle.ring.proofs.word_at.Statement.{statement}
 use Rattle.ring.proofs.word_at.Tie as tie
-use Rattle.ring.proofs.word_at.Reads as reads
-use Rattle.ring.proofs.word_at.Lts as lts
-use Rattle.ring.proofs.place_of.Reads as place-of-reads
 
 abbrev Inv-loop : tie.InvT-loop
 Inv-loop ring start word₀ a₀ word a = (length ring ≡ 63) × (start < 126) × PlacedTo ring start word a

@@ -1,7 +1,6 @@
 -- put_tray puts all lines but the header. After j sections, whatever completes the rest completes the tray; the measure is the sections left.
 use borrow.Author.Needs.{needs}
 use Prim.Native.Nat.{_-_}
-use borrow.Author.Tests.{not-true, not-false}
 use native.Mathlib.Omega.{arith}
 use mathlib.Core.Path.{refl}
 use Rattle.report.proofs.Turns.{SectionsTo, sections-none, tray-empty, tray-cut, sections-more, tray-more, tray-end}

@@ -124,7 +124,7 @@ module _ (t : ℕ) where
     all h =
         let e : drop j kinds ≡ [] = drop-of-length-le kinds h in
         let c : take j counts ≡ counts = take-all j counts (omega arith) in
-        rw (append-nil, append-nil, c) at (s .whole [] [] (rest (drop at file)) (rw e done))
+        rw (append-nil (s .text), append-nil (take j counts), c) at (s .whole [] [] (rest (drop at file)) (rw e done))
 
     pub tray-more : 3 ≤ j → at < length file → (new : List ℕ) (last : ℕ) → Puts out new next last (line wordMore []) → PutTray file old new to last
     tray-more h l new last w =

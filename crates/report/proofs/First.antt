@@ -1,19 +1,18 @@
 -- How many bytes of a file its items take, what is left after them, and that more bytes at the end change nothing of them.
-use mathlib.Core.Path.{_≡_, refl, sym, ap, ap₂, _∙_, subst}
-use mathlib.Core.Bool.{Bool, cond, true, false}
-use mathlib.Core.Logic.{_⊎_, inl, inr, ⊎-elim}
+use mathlib.Core.Path.{_≡_, refl, sym, ap, ap₂, _∙_}
+use mathlib.Core.Bool.{Bool, cond}
+use mathlib.Core.Logic.{_⊎_, ⊎-elim}
 use mathlib.Core.List.{List, [], _∷_, _++_}
 use Prim.Native.Nat.{ℕ, zero, suc, _+_, _-_, _*_, _<_, _≤_}
 use native.Mathlib.Nat.{suc-mul}
 use native.Mathlib.Omega.{arith}
 use borrow.Author.Tests.{le-leb, lt-leb}
-use lib.Dec.{leb}
-use lib.ListN.{length, getD, take, drop, length-append, length-drop}
+use lib.ListN.{length, take, drop, length-append, length-drop}
 use lib.Seq.{getD-drop, take-append-le, drop-append-le}
 use Rattle.numbers.proofs.Cases.{le-or-lt}
 use Rattle.report.specs.declared.Kind.{Kind}
 use Rattle.report.specs.declared.Kind.the-variants as K
-use Rattle.report.specs.Tray.{Bytes, First, item, short, firstBytes, first, Left, rest, cut, Items, none, early, one, Section, no-count, counted, Sections, done, stops, goes, kinds}
+use Rattle.report.specs.Tray.{Bytes, First, item, short, firstBytes, first, Left, rest, cut, Items, none, early, one, Section, no-count, counted, Sections, done, stops, goes}
 
 -- ---- one item
 

@@ -1,8 +1,7 @@
 -- How long the printed text can be: the numbers of an item's line are small by what its reader promises.
-use mathlib.Core.Path.{_≡_, refl, sym, ap, _∙_}
+use mathlib.Core.Path.{_≡_, refl, ap, _∙_}
 use mathlib.Core.List.{List, [], _∷_, _++_}
-use Prim.Native.Nat.{ℕ, zero, suc, _+_, _*_, _^_, _<_, _≤_}
-use native.Mathlib.Nat.{suc-mul}
+use Prim.Native.Nat.{ℕ, suc, _+_, _*_, _<_, _≤_}
 use native.Mathlib.Omega.{arith}
 use lib.ListN.{length, getD, length-append}
 use Rattle.refusal.specs.declared.Refusal.{Refusal}
@@ -27,7 +26,7 @@ use Rattle.text.proofs.Decimal.{decimal-length}
 use Rattle.report.specs.declared.Kind.{Kind}
 use Rattle.report.specs.declared.Kind.the-variants as K
 use Rattle.report.specs.Items.{lineFields, ringFields, blockFields, Fields}
-use Rattle.report.specs.Tray.{Bytes, Left, rest, cut, ItemLine, Items, none, early, one, Section, no-count, counted, Sections, done, stops, goes, kinds}
+use Rattle.report.specs.Tray.{Bytes, Left, rest, cut, ItemLine, Items, none, early, one, Section, no-count, counted, Sections, done, stops, goes}
 use Rattle.report.specs.Printed.{wordsHeader, wordEnd, wordMore, wordCut, header, closing, Report, empty, tray, itemRoom, closingRoom, reportRoom}
 use Rattle.report.proofs.First.{section-used}
 

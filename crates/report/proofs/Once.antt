@@ -12,7 +12,7 @@ use Rattle.text.specs.Text as text
 use Rattle.report.specs.declared.Kind.{Kind}
 use Rattle.report.specs.declared.Kind.the-variants as K
 use Rattle.report.specs.Items.{letter, Read, Fields}
-use Rattle.report.specs.Tray.{First, item, short, Left, rest, cut, ItemLine, Items, none, early, one, Section, no-count, counted, Sections, done, stops, goes}
+use Rattle.report.specs.Tray.{Left, rest, cut, ItemLine, Items, none, early, one, Section, no-count, counted, Sections, done, stops, goes}
 use Rattle.report.specs.Printed.{header, closing, Report, empty, tray}
 use Rattle.report.proofs.First.{not-both}
 

@@ -1,7 +1,7 @@
 -- The first item of a file from a place on: so many bytes, or a block after its row count.
-use mathlib.Core.Path.{_≡_, refl, sym, ap, ap₂, _∙_}
+use mathlib.Core.Path.{_≡_, sym, ap, ap₂, _∙_}
 use mathlib.Core.Bool.{Bool, cond, true, false}
-use mathlib.Core.List.{List, [], _∷_}
+use mathlib.Core.List.{List, _∷_}
 use Prim.Native.Nat.{ℕ, _+_, _-_, _<_, _≤_}
 use native.Mathlib.Numerals.{add-one}
 use native.Mathlib.Omega.{arith}
@@ -12,8 +12,12 @@ use lib.Seq.{drop-cons, drop-drop}
 use Rattle.report.specs.declared.Kind.{Kind}
 use Rattle.report.specs.declared.Kind.the-variants as K
 use Rattle.report.specs.declared.Part.{Part}
-use Rattle.report.specs.Tray.{First, item, short, firstBytes, first}
+use Rattle.report.specs.Tray.{item, short, firstBytes, first}
 use Rattle.report.specs.Inside.{PartOf}
+
+-- a list from one of its places on: what stands there, and the rest
+pub from-place : {A : Type 0} (l : List A) (j : ℕ) (d x : A) → j < length l → x ≡ getD l j d → drop j l ≡ x ∷ drop (j + 1) l
+from-place {A} l j d x h e = drop-cons l j d h ∙ ap₂ (λ (y : A) (m : List A). y ∷ m) (sym e) (ap (λ (k : ℕ). drop k l) (sym (add-one j)))
 
 -- ---- so many bytes
 
@@ -42,11 +46,7 @@ module _ (file : List ℕ) (at : ℕ) where
   no-row-count inside h = record { order = omega arith; inside = inside; small = omega arith; is = ap (first K.Block) (drop-of-length-le file h) }
 
   pub rows-after : at < length file → (n : ℕ) (p : Part) → n ≡ getD file at 0 → PartOf (firstBytes n (drop (at + 1) file)) file p → PartOf (first K.Block (drop at file)) file p
-  rows-after h n p e q =
-      let c : drop at file ≡ n ∷ drop (at + 1) file =
-      drop-cons file at 0 h ∙ ap₂ (λ (m : ℕ) (f : List ℕ). m ∷ f) (sym e) (ap (λ (j : ℕ). drop j file) (sym (add-one at)))
-      in
-      record { order = q .order; inside = q .inside; small = q .small; is = ap (first K.Block) c ∙ q .is }
+  rows-after h n p e q = record { order = q .order; inside = q .inside; small = q .small; is = ap (first K.Block) (from-place file at 0 n h e) ∙ q .is }
 
 -- ---- each kind
 

@@ -1,7 +1,7 @@
 -- The theorems of the report: one result for every file and buffer, how long a report and a file can be, and a file longer than any tray.
 use mathlib.Core.Path.{_≡_, refl, sym, ap, ap₂, _∙_, subst}
 use mathlib.Core.Logic.{inl, inr, ⊎-elim}
-use mathlib.Core.List.{List, [], _∷_, _++_}
+use mathlib.Core.List.{List, [], _∷_, _++_, append-assoc}
 use Prim.Native.Nat.{ℕ, suc, _+_, _<_, _≤_}
 use native.Mathlib.Omega.{arith}
 use lib.ListN.{length, getD, take, drop, length-take, take-append-drop}
@@ -9,10 +9,11 @@ use lib.Seq.{take-at, take-all, length-take-le}
 use Rattle.refusal.proofs.Laws.{one-refusal, refusal-positive}
 use Rattle.refusal.proofs.Theorems.{one-result}
 use Rattle.numbers.proofs.Cases.{le-or-lt}
+use Rattle.text.specs.Text.{lineEnd, fields, line}
 use Rattle.report.specs.declared.Reported.{Reported}
 use Rattle.report.specs.declared.Reported.the-variants as R
-use Rattle.report.specs.Tray.{Bytes, rest, cut, Sections, kinds}
-use Rattle.report.specs.Printed.{Report, empty, tray, reportRoom, longestFile}
+use Rattle.report.specs.Tray.{Bytes, Left, rest, cut, Sections, kinds}
+use Rattle.report.specs.Printed.{wordEnd, wordMore, wordCut, header, closing, Report, empty, tray, reportRoom, longestFile}
 use Rattle.report.specs.Promises.{reportNumbers, reportTests, Shows, Reports}
 use Rattle.report.proofs.First.{bytes-take, sections-used, sections-longer}
 use Rattle.report.proofs.Lengths.{report-length}
@@ -73,6 +74,26 @@ longer-file file text b p =
     ⊎-elim (λ (h : length file ≤ 97415). rw (take-all 97415 file h) at p)
     (λ (h : 97415 < length file). rw (take-append-drop 97415 file) at (more-follows (drop 97415 file) p (bytes-take 97415 file b) (length-take-le 97415 file (omega arith))))
     (le-or-lt (length file) 97415)
+
+-- ---- whole lines
+
+-- a text that ends with a line's end
+abbrev pub Ends : List ℕ → Type 0
+Ends l = (s : List ℕ) × (l ≡ s ++ (lineEnd ∷ []))
+
+ends-line : (before word ns : List ℕ) → Ends (before ++ line word ns)
+unfolding line
+ends-line before word ns = (before ++ (word ++ fields ns), simp append-assoc)
+
+ends-closing : (before counts : List ℕ) (left : Left) → Ends (before ++ closing counts left)
+ends-closing before counts (rest []) = ends-line before wordEnd counts
+ends-closing before counts (rest (x ∷ xs)) = ends-line before wordMore []
+ends-closing before counts cut = ends-line before wordCut []
+
+-- a report never stops inside a line
+pub whole-lines : {file text : List ℕ} → Report file text → Ends text
+whole-lines empty = ends-line header wordCut []
+whole-lines (tray {lines = lines} {counts = counts} {left = left} d) = rw append-assoc at (ends-closing (header ++ lines) counts left)
 
 -- ---- for a caller that writes the text out
 

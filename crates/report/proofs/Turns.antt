@@ -1,8 +1,8 @@
 -- The turns of the loops over the items of a section and over the sections: whatever completes the rest completes the whole.
-use mathlib.Core.Path.{_≡_, refl, sym, ap, ap₂, _∙_, subst, subst₃}
-use mathlib.Core.Bool.{Bool, cond, true, false}
+use mathlib.Core.Path.{_≡_, refl, ap, _∙_, subst, subst₃}
+use mathlib.Core.Bool.{true, false}
 use mathlib.Core.List.{List, [], _∷_, _++_, append-nil, append-assoc}
-use Prim.Native.Nat.{ℕ, zero, suc, _+_, _-_, _<_, _≤_}
+use Prim.Native.Nat.{ℕ, suc, _+_, _-_, _<_, _≤_}
 use native.Mathlib.Numerals.{add-one}
 use native.Mathlib.Omega.{arith}
 use lib.ListN.{length, getD, set, take, drop, length-set, drop-of-length-le}
@@ -14,9 +14,10 @@ use Rattle.report.specs.declared.Kind.{Kind}
 use Rattle.report.specs.declared.Kind.the-variants as K
 use Rattle.report.specs.declared.Part.{Part}
 use Rattle.report.specs.declared.Ended.{Ended}
-use Rattle.report.specs.Tray.{Bytes, First, item, short, first, ItemLine, Left, rest, cut, Items, none, early, one, Section, no-count, counted, Sections, done, stops, goes, kinds}
+use Rattle.report.specs.Tray.{Bytes, item, short, first, Left, rest, cut, Items, none, early, one, Section, no-count, counted, Sections, done, stops, goes, kinds}
 use Rattle.report.specs.Printed.{wordEnd, wordMore, wordCut, header, closing, Report, empty, tray}
 use Rattle.report.specs.Inside.{PartOf, PutItem, PutSection, PutTray}
+use Rattle.report.proofs.Parts.{from-place}
 
 -- ---- the items of a section
 
@@ -48,11 +49,7 @@ module _ (kind : Kind) (t : ℕ) where
 
   module _ (file : List ℕ) (from count : ℕ) (old out : List ℕ) (to at next i : ℕ) (s : ItemsTo file from count old out to at next i) where
     from-count : (left : Left) → Items kind t count 0 (drop (from + 1) file) (s .text) left → Section kind t (drop from file) (s .text) count left
-    from-count left b =
-        let c : drop from file ≡ count ∷ drop (from + 1) file =
-        drop-cons file from 0 (s .here) ∙ ap₂ (λ (m : ℕ) (f : List ℕ). m ∷ f) (sym (s .counts)) (ap (λ (j : ℕ). drop j file) (sym (add-one from)))
-        in
-        rw c (counted b)
+    from-count left b = rw (from-place file from 0 count (s .here) (s .counts)) (counted b)
 
     pub items-all : count ≤ i → PutSection kind t file from old out to (record { at = at; next = next; count = count; cut = false })
     items-all h =
@@ -127,7 +124,7 @@ module _ (t : ℕ) where
     all h =
         let e : drop j kinds ≡ [] = drop-of-length-le kinds h in
         let c : take j counts ≡ counts = take-all j counts (omega arith) in
-        rw (append-nil, append-nil, c) at (s .whole [] [] (rest (drop at file)) (rw e done))
+        rw (append-nil (s .text), append-nil (take j counts), c) at (s .whole [] [] (rest (drop at file)) (rw e done))
 
     pub tray-more : 3 ≤ j → at < length file → (new : List ℕ) (last : ℕ) → Puts out new next last (line wordMore []) → PutTray file old new to last
     tray-more h l new last w =
@@ -141,7 +138,7 @@ module _ (t : ℕ) where
 
     module _ (less : j < 3) (kind : Kind) (is : kind ≡ getD kinds j K.Block) (new : List ℕ) (e : Ended) (p : PutSection kind t file at out new next e) where
       from-here : drop j kinds ≡ kind ∷ drop (j + 1) kinds
-      from-here = drop-cons kinds j K.Block less ∙ ap₂ (λ (k : Kind) (l : List Kind). k ∷ l) (sym is) (ap (λ (i : ℕ). drop i kinds) (sym (add-one j)))
+      from-here = from-place kinds j K.Block kind less is
 
       pub tray-cut : e .cut ≡ true → (far : List ℕ) (last : ℕ) → Puts new far (e .next) last (line wordCut []) → PutTray file old far to last
       tray-cut h far last w =

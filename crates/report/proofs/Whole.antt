@@ -1,5 +1,5 @@
 -- The ways out of the report: too little room, and the whole text at the start of the buffer.
-use mathlib.Core.Path.{_≡_, refl, sym, ap, _∙_}
+use mathlib.Core.Path.{refl, ap}
 use mathlib.Core.Logic.{inl, inr}
 use mathlib.Core.List.{List, [], _∷_, _++_}
 use Prim.Native.Nat.{ℕ, _<_, _≤_}
@@ -9,7 +9,7 @@ use Rattle.text.specs.Text.{line}
 use Rattle.text.specs.Writing.{Puts}
 use Rattle.text.proofs.Writing.{puts-then, puts-whole}
 use Rattle.report.specs.Printed.{wordsHeader, header, reportRoom}
-use Rattle.report.specs.Promises.{Shows, Reports}
+use Rattle.report.specs.Promises.{Reports}
 use Rattle.report.specs.Inside.{PutTray}
 use Rattle.report.proofs.Lengths.{report-length}
 

@@ -1,9 +1,9 @@
 -- The theorems of text: decimal numbers say the number and have no leading zero, and writing has one result.
 use mathlib.Core.Path.{_≡_, refl, sym, ap, ap₂, _∙_}
 use mathlib.Core.List.{List, [], _∷_, _++_}
-use Prim.Native.Nat.{ℕ, zero, suc, _+_, _-_, _*_, _/_, _%_, _<_, _≤_}
+use Prim.Native.Nat.{ℕ, _+_, _-_, _*_, _/_, _%_}
 use native.Mathlib.Omega.{arith}
-use lib.ListN.{length, getD, take, drop, take-append-drop, List·getD-append}
+use lib.ListN.{getD, drop, take-append-drop, List·getD-append}
 use Rattle.text.specs.Text.{digit, decimal}
 use Rattle.text.specs.Writing.{Puts}
 use Rattle.text.proofs.Decimal.{decimal-small, decimal-more, by-digits, decimal-positive}

@@ -1,7 +1,7 @@
 -- put_tray puts all lines but the header. After j sections, whatever completes the rest completes the tray; the measure is the sections left.
 use borrow.Author.Needs.{needs}
-use Prim.Native.Nat.{_-_}
-use borrow.Author.Tests.{not-true, not-false}
+use Prim.Native.Nat.{_-_, _<_}
+use lib.ListN.{length}
 use native.Mathlib.Omega.{arith}
 use mathlib.Core.Path.{refl}
 use Rattle.report.proofs.Turns.{SectionsTo, sections-none, tray-empty, tray-cut, sections-more, tray-more, tray-end}
@@ -75,7 +75,10 @@ same-length-3 : tie.Need-same-length-3 Inv-loop μ-loop
 same-length-3 c = search needs
 
 returns-3 : tie.Need-returns-3 Inv-loop μ-loop
-returns-3 c = search (tray-more, needs)
+returns-3 c =
+    let w = c .before .before .before .before .before .before .before in
+    let h : w .loop .at < length (w .before .before .before .before .before .args .file .now) = omega arith in
+    search (tray-more, needs)
 
 slice-aggregate-put-line : tie.Need-slice-aggregate-put-line Inv-loop μ-loop
 slice-aggregate-put-line c = search needs

@@ -39,7 +39,7 @@ pub data Report : List ℕ → List ℕ → Type 0 where
 abbrev pub fieldRoom : ℕ → ℕ
 fieldRoom digits = 1 + digits
 
--- a kind; an item number up to 254; an answer up to 12; a distance or a start, up to 125; a line's number, up to 4095; the line end
+-- a kind; an item number up to 254; an answer up to 12; a distance or a start, up to 125; a number, a distance or a row count, up to 4095; the line end
 abbrev pub itemRoom : ℕ
 itemRoom = 1 + fieldRoom 3 + fieldRoom 2 + fieldRoom 3 + fieldRoom 4 + 1
 

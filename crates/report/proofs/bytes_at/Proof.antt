@@ -4,17 +4,11 @@ use Rattle.report.proofs.Parts.{bytes-missing, bytes-here}
 use Rattle.report.proofs.bytes_at.Statement.{statement}
 use Rattle.report.proofs.bytes_at.Tie as tie
 
-sub-if1 : tie.Need-sub-if1
-sub-if1 c = search needs
-
 returns : tie.Need-returns
 returns c = search (bytes-missing, needs)
-
-add-t4 : tie.Need-add-t4
-add-t4 c = search needs
 
 returns-2 : tie.Need-returns-2
 returns-2 c = search (bytes-here, needs)
 
 pub bytes-at-spec : {M : Type 1} → statement M
-bytes-at-spec = tie.close (tie.spec sub-if1 returns add-t4 returns-2)
+bytes-at-spec = tie.close (tie.spec (λ c. search needs) returns (λ c. search needs) returns-2)

@@ -4,24 +4,6 @@ use Rattle.report.proofs.Fields.{of-line, of-ring, of-block}
 use Rattle.report.proofs.fields_of.Statement.{statement}
 use Rattle.report.proofs.fields_of.Tie as tie
 
-enum-told : tie.Need-enum-told
-enum-told c = search needs
-
-line-fields-requires : tie.Need-line-fields-requires
-line-fields-requires c κs = search needs
-
-enum-told-2 : tie.Need-enum-told-2
-enum-told-2 c = search needs
-
-ring-fields-requires : tie.Need-ring-fields-requires
-ring-fields-requires c κs = search needs
-
-enum-told-3 : tie.Need-enum-told-3
-enum-told-3 c = search needs
-
-block-fields-requires : tie.Need-block-fields-requires
-block-fields-requires c κs = search needs
-
 returns : tie.Need-returns
 returns c = search (of-line, needs)
 
@@ -35,12 +17,12 @@ pub fields-of-spec : {M : Type 1} → statement M
 fields-of-spec =
     tie.close
     (tie.spec
-    enum-told
-    line-fields-requires
-    enum-told-2
-    ring-fields-requires
-    enum-told-3
-    block-fields-requires
+    (λ c. search needs)
+    (λ c κs. search needs)
+    (λ c. search needs)
+    (λ c κs. search needs)
+    (λ c. search needs)
+    (λ c κs. search needs)
     returns
     returns-2
     returns-3)

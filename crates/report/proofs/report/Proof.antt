@@ -7,18 +7,6 @@ use Rattle.report.proofs.report.Tie as tie
 returns : tie.Need-returns
 returns c = search (no-room, needs)
 
-slice-aggregate-put-words : tie.Need-slice-aggregate-put-words
-slice-aggregate-put-words c = search needs
-
-put-words-requires : tie.Need-put-words-requires
-put-words-requires c κs = search needs
-
-put-tray-requires : tie.Need-put-tray-requires
-put-tray-requires c κs = search needs
-
-same-length : tie.Need-same-length
-same-length c = search needs
-
 returns-2 : tie.Need-returns-2
 returns-2 c = search (whole-text, needs)
 
@@ -27,8 +15,8 @@ report-spec =
     tie.close
     (tie.spec
     returns
-    slice-aggregate-put-words
-    put-words-requires
-    put-tray-requires
-    same-length
+    (λ c. search needs)
+    (λ c κs. search needs)
+    (λ c κs. search needs)
+    (λ c. search needs)
     returns-2)

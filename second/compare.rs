@@ -319,10 +319,9 @@ pub fn compare(program: &str, trays: u64, seed: u64, first: u64) -> Result<Strin
         if let Some(fault) = fault {
             let name = env::temp_dir().join(format!("seed-{seed}-number-{number}.tray"));
             fs::write(&name, &tray).map_err(|error| format!("{}: {error}", name.display()))?;
-            return Err(format!(
-                "the reports of tray {number} of seed {seed} {fault}\nThe tray is in {}. Once more: second compare {program} 1 {seed} {number}",
-                name.display()
-            ));
+            let this = env::args().next().unwrap_or_default();
+            let again = format!("The tray is in {}. To see it again: {this} compare {program} 1 {seed} {number}", name.display());
+            return Err(format!("the reports of tray {number} of seed {seed} {fault}\n{again}"));
         }
         tally.add(&due);
     }

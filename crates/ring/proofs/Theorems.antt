@@ -1,17 +1,18 @@
--- What is proved of rings, in the words of the rules: the list, the true start alone, a dark ring, the marks at the starts, and one result.
+-- What is proved of rings, in the words of the rules: the word at a start, the list, the true start alone, a dark ring, the marks at the starts, and one result.
 use mathlib.Core.Path.{_≡_, refl, sym, ap, ap₂, _∙_}
 use mathlib.Core.Logic.{inl}
 use mathlib.Core.List.{List, [], _∷_, _++_}
-use Prim.Native.Nat.{ℕ, _+_, _<_, _≤_}
+use Prim.Native.Nat.{ℕ, _+_, _-_, _%_, _<_, _≤_}
 use native.Mathlib.Nat.{le-of-eq}
 use native.Mathlib.Omega.{arith}
 use lib.ListN.{length, getD, replicate, drop}
 use Rattle.refusal.proofs.Laws.{one-refusal, refusal-positive}
 use Rattle.refusal.proofs.Theorems.{one-result, same-numbers}
 use Rattle.polynomial.specs.Sums.{nonzero, weight}
-use Rattle.code.specs.Word.{Characters, marks, Line, number, distance, listed}
+use Rattle.code.specs.Word.{Characters, marks, Line, number, distance, listed, reversed}
 use Rattle.code.proofs.Words.{listed-long}
 use Rattle.code.proofs.Distances.{distance-weight, weight-added}
+use Rattle.code.proofs.Turning.{turned-get, reversed-get}
 use Rattle.code.proofs.Theorems.{zero-line}
 use Rattle.line.specs.Promises.{Within}
 use Rattle.line.proofs.Theorems.{one-within}
@@ -22,10 +23,28 @@ use Rattle.ring.specs.declared.RingReading.the-variants as R
 use Rattle.ring.specs.Ring.{placed, Start, ListOf}
 use Rattle.ring.specs.Promises.{listingNumbers, readingNumbers, listingTests, Lists, ListsRing, readingTests, ReadsAt, ReadsRing}
 use Rattle.ring.specs.Inside.{seen}
-use Rattle.ring.proofs.Placing.{kept}
+use Rattle.ring.proofs.Placing.{kept, placed-forward, placed-backward, seen-placed, seen-zero}
 use Rattle.ring.proofs.Marks.{markDistances, mark-distance, marks-weight}
 use Rattle.ring.proofs.Alone.{starts-near, same-start, marks-of-start, start-of-marks}
 use Rattle.ring.proofs.Those.{At, one-those, those-entry, those-rise, those-all, one-of-those, all-those}
+
+-- ---- the word at a start
+
+-- start k from 0 to 62 is forward: address a is taken from ring place (k + a) mod 63
+pub forward-word : (ring : List ℕ) (k a : ℕ) → k < 63 → a < 63 → getD (placed k ring) a 0 ≡ getD ring ((k + a) % 63) 0
+forward-word ring k a h l = ap (λ (w : List ℕ). getD w a 0) (placed-forward k ring h) ∙ turned-get k ring a l
+
+-- start 63 + s is backward: address a is taken from place (s - a) mod 63
+pub backward-word : (ring : List ℕ) (s a : ℕ) → a < 63 → getD (placed (63 + s) ring) a 0 ≡ getD ring ((s + 63 - a) % 63) 0
+backward-word ring s a l =
+    ap (λ (w : List ℕ). getD w a 0) (placed-backward (63 + s) ring (omega arith) ∙ ap (λ (n : ℕ). reversed n ring) (omega arith)) ∙ reversed-get s ring a l
+
+-- one start after another is a start: start k of a ring is start `seen m k` of the word at m, which is start 0 for k = m alone
+pub start-after-start : (ring : List ℕ) (m k : ℕ) → m < 126 → k < 126 → placed (seen m k) (placed m ring) ≡ placed k ring
+start-after-start ring m k = seen-placed m k ring
+
+pub start-itself : (m k : ℕ) → m < 126 → k < 126 → seen m k ≡ 0 → k ≡ m
+start-itself = seen-zero
 
 -- ---- the list of a ring, damaged, dark or noise
 
@@ -187,11 +206,6 @@ pub two-starts : (ring l n : List ℕ) (m k e t : ℕ) → length ring ≡ 63 �
 two-starts = starts-near
 
 -- and where the word at start m is itself a line, start k is listed exactly when they lie within the radius
-pub record SameAs (P Q : Type 0) : Type 0 where
-  pub to : P → Q
-  pub from : Q → P
-
 pub starts-of-line : (ring : List ℕ) (m k t : ℕ) → length ring ≡ 63 → m < 126 → k < 126 → t ≤ 5 → Line (placed m ring)
-    → SameAs (Start t ring k) (distance (placed (seen m k) marks) marks ≤ t)
-starts-of-line ring m k t long hm hk small line =
-    record { to = marks-of-start ring m k t long hm hk line small; from = start-of-marks ring m k t long hm hk line }
+    → (Start t ring k → distance (placed (seen m k) marks) marks ≤ t) × (distance (placed (seen m k) marks) marks ≤ t → Start t ring k)
+starts-of-line ring m k t long hm hk small line = (marks-of-start ring m k t long hm hk line small, start-of-marks ring m k t long hm hk line)

@@ -11,6 +11,11 @@ ghost use Rattle.ring.specs.Promises.{listingNumbers, readingNumbers, Li
 ghost use Rattle.ring.specs.Inside.{MarkSums, TurnedBack, Listable, Mendable, placeOf};
 use refusal::Refusal;
 
+// The powers 5 and -1 of α.
+const FIFTH_POWER: u8 = 32;
+
+const POWER_BACK: u8 = 33;
+
 pub enum RingListing {
     Listed { count: u8 },
     Refused(Refusal),
@@ -69,6 +74,7 @@ pub fn read_ring(ring: &[u8], radius: u8, output: &mut [u8]) -> RingReading
     if count > 1 {
         return RingReading::Refused(Refusal::ManyStarts);
     }
+    // The start is listed, so there is a line.
     let start = starts[0];
     let word = word_at(ring, start);
     let found = line::nearest_line(&word, radius);
@@ -113,7 +119,7 @@ fn no_starts() -> [u8; 126]
     [0u8; 126]
 }
 
-// Whether errors as many as the radius at most, which counts up to 5, have these power sums.
+// Whether some errors, as many as the radius at most, have these power sums: the radius counts up to 5.
 fn mendable(sums: [u8; 11], radius: u8) -> bool
     ensures { λ r. ⌜ Tells (Mendable sums radius) r ⌝ }
 {
@@ -123,7 +129,6 @@ fn mendable(sums: [u8; 11], radius: u8) -> bool
 
 // The power sums of the marks at the start after this one: they are turned back by one character, but the first backward start has its own.
 fn next_marks(marks: [u8; 11], start: u8) -> [u8; 11]
-    requires { ⌜ start < 126 ⌝ }
     requires { ⌜ MarkSums start marks ⌝ }
     ensures { λ r. ⌜ MarkSums (start + 1) r ⌝ }
 {
@@ -140,16 +145,16 @@ fn backward_marks() -> [u8; 11]
     [57, 16, 45, 19, 39, 41, 16, 29, 1, 33, 29]
 }
 
-// The power sums of a word turned back by one character: S_j times α^-j, from j = -5 on.
+// The power sums of a word turned back by one character: each S_j times α^-j, from j = -5 on.
 fn turned_back(sums: [u8; 11]) -> [u8; 11]
     ensures { λ r. ⌜ TurnedBack sums r ⌝ }
 {
     let mut r = sums;
-    let mut x: u8 = 32;
+    let mut x = FIFTH_POWER;
     let mut i: usize = 0;
     while i < 11 {
         r[i] = field::times(r[i], x);
-        x = field::times(x, 33);
+        x = field::times(x, POWER_BACK);
         i += 1;
     }
     r

@@ -1,7 +1,8 @@
 -- The loop keeps that the starts below this one are listed, so that whatever lists the rest completes the list, and that the marks' sums are those of this start.
+use native.Mathlib.Omega.{arith}
 use borrow.Author.Needs.{needs}
 use mathlib.Core.Logic.{⊎-elim}
-use Prim.Native.Nat.{_-_}
+use Prim.Native.Nat.{_-_, _<_}
 use Rattle.ring.proofs.Turns.{ListedTo, listed-none, listed-one, listed-not, listed-all}
 use Rattle.ring.proofs.list_starts.Statement.{statement}
 use Rattle.ring.proofs.list_starts.Tie as tie
@@ -46,7 +47,9 @@ loop-less : tie.Need-loop-less Inv-loop μ-loop
 loop-less c = search needs
 
 loop-again : tie.Need-loop-again Inv-loop μ-loop
-loop-again c = ⊎-elim (λ w. search (listed-one, needs)) (λ w. search (listed-not, needs)) (c .if1 .came)
+loop-again c =
+    let inside : c .before .before .before .before .before .loop .start < 126 = omega arith in
+    ⊎-elim (λ w. search (listed-one, needs)) (λ w. search (listed-not, needs)) (c .if1 .came)
 
 same-length : tie.Need-same-length Inv-loop μ-loop
 same-length c = search needs

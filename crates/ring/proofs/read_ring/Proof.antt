@@ -1,5 +1,6 @@
 -- Each return is one way in which reading ends.
 use native.Mathlib.Omega.{arith}
+use Prim.Native.Nat.{_<_}
 use borrow.Author.Needs.{needs}
 use borrow.Author.Tests.{not-true, not-false}
 use Rattle.ring.proofs.Ways.{listable, start-inside, read-other-length, read-other-room, read-out-of-range, read-radius-over, no-start, many-starts, the-line}
@@ -36,7 +37,9 @@ returns-5 : tie.Need-returns-5
 returns-5 c = search (no-start, not-false, needs)
 
 returns-6 : tie.Need-returns-6
-returns-6 c = search (many-starts, not-false, needs)
+returns-6 c =
+    let many : 1 < c .before .before .before .list-starts .result = omega arith in
+    search (many-starts, not-false, needs)
 
 array-read-start : tie.Need-array-read-start
 array-read-start c = search needs

@@ -18,7 +18,7 @@ fn is_proper(rows: &[u8]) -> bool {
     (0..rows.len()).all(row_is_even) && (0..8).all(column_is_even)
 }
 
-fn flipped(rows: &[u8], bits: &[(usize, usize)]) -> Vec<u8> {
+pub fn flipped(rows: &[u8], bits: &[(usize, usize)]) -> Vec<u8> {
     let mut other = rows.to_vec();
     for &(row, column) in bits {
         other[row] ^= 1 << column;
@@ -49,7 +49,7 @@ fn near(rows: &[u8]) -> Vec<(u8, Vec<u8>)> {
 /// The answer, the distance, and the output.
 type Answer = (u8, u8, Vec<u8>);
 
-fn read(rows: &[u8], room: usize) -> Answer {
+pub fn read(rows: &[u8], room: usize) -> Answer {
     let refused = |number| (number, 0, vec![UNTOUCHED; room]);
     if rows.len() < 2 || rows.len() > 64 {
         return refused(8);
@@ -66,7 +66,7 @@ fn read(rows: &[u8], room: usize) -> Answer {
 }
 
 /// The one proper block with these data rows.
-fn encoded(data: &[u8]) -> Vec<u8> {
+pub fn encoded(data: &[u8]) -> Vec<u8> {
     let mut block = Vec::new();
     for &row in data {
         let even: Vec<u8> = [row, row + 128].into_iter().filter(|x| (0..8).filter(|c| x >> c & 1 == 1).count() % 2 == 0).collect();

@@ -17,7 +17,7 @@ pub fn number(line: &[u8]) -> u16 {
 /// The answer, the number, the distance, and the output.
 type Answer = (u8, u16, usize, Vec<u8>);
 
-fn read(code: &Code, word: &[u8], radius: u8, wanted: Option<u16>, room: usize) -> Answer {
+pub fn read(code: &Code, word: &[u8], radius: u8, wanted: Option<u16>, room: usize) -> Answer {
     let refused = |answer| (answer, 0, 0, vec![UNTOUCHED; room]);
     if word.len() != 63 {
         return refused(1);

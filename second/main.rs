@@ -1,55 +1,77 @@
 //! The second program: the same rules by other methods, in another language, with no code shared.
 //!
-//! It writes the stored files that the program crates are held to. Build and run it from the project's root:
+//! Build it and run it from the project's root:
 //!
 //!     rustc -O --edition 2021 -o /tmp/second second/main.rs && /tmp/second WHAT
 //!
-//! WHAT names a program crate: its files `stdin` and `stdout` are written anew. `git diff` then shows what differs.
+//! WHAT is one of these:
+//!
+//!     CRATE                                 writes the stored files `stdin` and `stdout` of a program crate anew; `git diff` then shows what differs
+//!     tray                                  prints the report of the tray file on standard input
+//!     compare PROGRAM TRAYS [SEED [FIRST]]  runs PROGRAM on so many random trays and stops at the first byte that is not the report's;
+//!                                           without SEED and FIRST it makes the trays of seed 1 from tray 0 on
 
 mod block;
 mod code;
+mod compare;
 mod encoder;
 mod field;
 mod line;
 mod random;
 mod ring;
 mod sheet;
+mod tray;
 
-use std::fs;
+use std::io::{self, Read};
+use std::process::exit;
+use std::{env, fs};
 
-/// Writes what a program crate reads and what it has to write.
-fn store(name: &str, stdin: Option<&[u8]>, stdout: &[u8]) {
-    let folder = format!("crates/{name}");
-    if let Some(bytes) = stdin {
-        fs::write(format!("{folder}/stdin"), bytes).expect("run this from the project's root");
+/// Writes what a program crate has to write.
+fn store(name: &str, stdout: &str) {
+    fs::write(format!("crates/{name}/stdout"), stdout).expect("run this from the project's root");
+}
+
+/// Writes what a program crate reads, and what it has to write.
+fn store_both(name: &str, (stdin, stdout): (Vec<u8>, String)) {
+    fs::write(format!("crates/{name}/stdin"), stdin).expect("run this from the project's root");
+    store(name, &stdout);
+}
+
+fn print_report() {
+    let mut file = Vec::new();
+    io::stdin().read_to_end(&mut file).expect("a tray file on standard input");
+    print!("{}", tray::report(&code::Code::new(), &file));
+}
+
+fn print_comparison(program: &str, trays: &str, seed: &str, first: &str) {
+    let [trays, seed, first] = [trays, seed, first].map(|number| number.parse().expect("TRAYS, SEED and FIRST are numbers"));
+    match compare::compare(program, trays, seed, first) {
+        Ok(summary) => println!("{summary}"),
+        Err(difference) => {
+            eprintln!("{difference}");
+            exit(1);
+        }
     }
-    fs::write(format!("{folder}/stdout"), stdout).expect("run this from the project's root");
 }
 
 fn main() {
-    let what = std::env::args().nth(1).unwrap_or_default();
-    match what.as_str() {
-        "bench_sheet" => store(&what, None, sheet::rows().as_bytes()),
-        "block_cases" => {
-            let (stdin, stdout) = block::cases();
-            store(&what, Some(&stdin), stdout.as_bytes());
-        }
-        "encoder_cases" => {
-            let (stdin, stdout) = encoder::cases();
-            store(&what, Some(&stdin), stdout.as_bytes());
-        }
-        "line_cases" => {
-            let (stdin, stdout) = line::cases();
-            store(&what, Some(&stdin), stdout.as_bytes());
-        }
-        "ring_cases" => {
-            let (stdin, stdout) = ring::cases();
-            store(&what, Some(&stdin), stdout.as_bytes());
-        }
-        "field_table" => store(&what, None, field::table().as_bytes()),
+    let arguments: Vec<String> = env::args().skip(1).collect();
+    let words: Vec<&str> = arguments.iter().map(String::as_str).collect();
+    match words[..] {
+        [name @ "bench_sheet"] => store(name, &sheet::rows()),
+        [name @ "block_cases"] => store_both(name, block::cases()),
+        [name @ "encoder_cases"] => store_both(name, encoder::cases()),
+        [name @ "field_table"] => store(name, &field::table()),
+        [name @ "line_cases"] => store_both(name, line::cases()),
+        [name @ "ring_cases"] => store_both(name, ring::cases()),
+        ["tray"] => print_report(),
+        ["compare", program, trays] => print_comparison(program, trays, "1", "0"),
+        ["compare", program, trays, seed] => print_comparison(program, trays, seed, "0"),
+        ["compare", program, trays, seed, first] => print_comparison(program, trays, seed, first),
         _ => {
-            eprintln!("second WHAT, from the project's root. WHAT: bench_sheet block_cases encoder_cases field_table line_cases ring_cases");
-            std::process::exit(2);
+            eprintln!("second CRATE | tray | compare PROGRAM TRAYS [SEED [FIRST]], from the project's root");
+            eprintln!("CRATE: bench_sheet block_cases encoder_cases field_table line_cases ring_cases");
+            exit(2);
         }
     }
 }

@@ -24,7 +24,7 @@ fn word_at(ring: &[u8], start: usize) -> Vec<u8> {
 }
 
 /// The ring on which a word is taken at a start.
-fn recorded(word: &[u8], start: usize) -> Vec<u8> {
+pub fn recorded(word: &[u8], start: usize) -> Vec<u8> {
     let mut ring = word.to_vec();
     if start < 63 {
         ring.rotate_right(start);
@@ -76,7 +76,7 @@ fn list(code: &Code, ring: &[u8], radius: u8, room: usize) -> Answer {
     (vec![0, entries.len()], output)
 }
 
-fn read(code: &Code, ring: &[u8], radius: u8, room: usize) -> Answer {
+pub fn read(code: &Code, ring: &[u8], radius: u8, room: usize) -> Answer {
     let refused = |number| (vec![number as usize, 0, 0, 0], vec![UNTOUCHED; room]);
     if let Some(number) = refusal(ring, radius, room, 63) {
         return refused(number);

@@ -80,7 +80,7 @@ pub fn encoded(data: &[u8]) -> Vec<u8> {
     block
 }
 
-fn encode(data: &[u8], room: usize) -> Answer {
+pub fn encode(data: &[u8], room: usize) -> Answer {
     let refused = |number| (number, 0, vec![UNTOUCHED; room]);
     if data.is_empty() || data.len() > 63 {
         return refused(8);
@@ -118,7 +118,7 @@ impl Cases {
     }
 }
 
-fn random_block(random: &mut Random, rows: usize) -> Vec<u8> {
+pub fn random_block(random: &mut Random, rows: usize) -> Vec<u8> {
     encoded(&random.bytes(rows - 1, 128))
 }
 

@@ -80,7 +80,7 @@ fn information(text: &[u8], number: u16) -> Vec<u8> {
 }
 
 /// The answer of encoding at once, and the output.
-fn encode(text: &[u8], number: u16, room: usize) -> (u8, Vec<u8>) {
+pub fn encode(text: &[u8], number: u16, room: usize) -> (u8, Vec<u8>) {
     let refused = |answer| (answer, vec![UNTOUCHED; room]);
     if text.len() != 50 {
         return refused(1);
@@ -104,13 +104,13 @@ fn encode(text: &[u8], number: u16, room: usize) -> (u8, Vec<u8>) {
 }
 
 #[derive(Clone)]
-struct Register {
-    held: Vec<u8>,
-    count: u8,
+pub struct Register {
+    pub held: Vec<u8>,
+    pub count: u8,
 }
 
 impl Register {
-    fn step(&mut self, c: u8) -> u8 {
+    pub fn step(&mut self, c: u8) -> u8 {
         if self.count >= 52 {
             return 11;
         }
@@ -123,7 +123,7 @@ impl Register {
         0
     }
 
-    fn checks(&self) -> (u8, Vec<u8>) {
+    pub fn checks(&self) -> (u8, Vec<u8>) {
         let refused = |answer| (answer, vec![0; 11]);
         if self.count > 52 {
             return refused(11);

@@ -29,7 +29,7 @@ pub fn product(u: u8, v: u8) -> u8 {
 }
 
 /// The one w with v w = u; 0 for v = 0.
-fn quotient(u: u8, v: u8) -> u8 {
+pub fn quotient(u: u8, v: u8) -> u8 {
     if v == 0 {
         return 0;
     }

@@ -64,7 +64,7 @@ fn refusal(ring: &[u8], radius: u8, room: usize, stated: usize) -> Option<u8> {
 /// The answer and the fields after it, and the output.
 type Answer = (Vec<usize>, Vec<u8>);
 
-fn list(code: &Code, ring: &[u8], radius: u8, room: usize) -> Answer {
+pub fn list(code: &Code, ring: &[u8], radius: u8, room: usize) -> Answer {
     let mut output = vec![UNTOUCHED; room];
     if let Some(number) = refusal(ring, radius, room, 126) {
         return (vec![number as usize, 0], output);

@@ -1,0 +1,209 @@
+/* Tests of include/film.h: what each function gives, every refusal by its number, and outputs that stay as they were, to either
+ * side too. It compiles as C and as C++. */
+#include "film.h"
+#include <stdio.h>
+#include <string.h>
+
+static int failures = 0;
+
+#define EXPECT(holds) ((holds) ? (void)0 : (void)(failures++, printf("%s:%d: %s\n", __FILE__, __LINE__, #holds)))
+
+/* An output with bytes of 170 before, in and after it. */
+enum { SIDE = 16, ROOM = 256 };
+static uint8_t memory[SIDE + ROOM + SIDE];
+static uint8_t *const out = memory + SIDE;
+
+static void lend(void) { memset(memory, 170, sizeof memory); }
+
+/* Whether every byte but the first n of the output is as it was lent. */
+static int kept_after(size_t n) {
+    for (size_t i = 0; i < sizeof memory; i++)
+        if ((i < SIDE || i >= SIDE + n) && memory[i] != 170)
+            return 0;
+    return 1;
+}
+
+static int refused_line(film_line r, int answer) { return r.answer == answer && r.number == 0 && r.distance == 0 && kept_after(0); }
+static int refused_list(film_list r, int answer) { return r.answer == answer && r.count == 0 && kept_after(0); }
+static int refused_block(film_block r, int answer) { return r.answer == answer && r.distance == 0 && kept_after(0); }
+
+static int refused_ring(film_ring r, int answer) {
+    return r.answer == answer && r.start == 0 && r.number == 0 && r.distance == 0 && kept_after(0);
+}
+
+/* Lengths that are neither 63 nor 126. */
+static const size_t wrong[] = {0, 1, 50, 62, 64, 125, 127, ROOM};
+static const int wrongs = sizeof wrong / sizeof wrong[0];
+
+static uint8_t zeros[ROOM], z[FILM_CHARACTERS];
+
+static void field(void) {
+    EXPECT(film_sum(5, 3).answer == 0 && film_sum(5, 3).value == 6);
+    EXPECT(film_product(32, 2).value == 3 && film_product(33, 2).value == 1);
+    EXPECT(film_quotient(5, 0).answer == 0 && film_quotient(5, 0).value == 0 && film_quotient(1, 2).value == 33);
+    for (int bad = 64; bad < 256; bad++) {
+        film_element r[] = {film_sum((uint8_t)bad, 1), film_sum(1, (uint8_t)bad), film_product((uint8_t)bad, 1),
+                            film_product(1, (uint8_t)bad), film_quotient((uint8_t)bad, 1), film_quotient(1, (uint8_t)bad)};
+        for (int i = 0; i < 6; i++)
+            EXPECT(r[i].answer == FILM_VALUE_OVER && r[i].value == 0);
+    }
+}
+
+static void encoding(void) {
+    static const uint8_t checks[] = {32, 0, 0, 8, 0, 0, 0, 1, 1, 0, 1};
+    static const int ones[] = {5, 6, 14, 15, 23, 24, 32, 33, 41, 42};
+    uint8_t text[FILM_TEXT] = {0};
+    for (int i = 0; i < 10; i++)
+        text[ones[i]] = 1;
+    lend();
+    EXPECT(film_encode_line(text, 50, 65, out, 63) == FILM_DONE && kept_after(63));
+    EXPECT(memcmp(out, text, 50) == 0 && out[50] == 1 && out[51] == 1 && memcmp(out + 52, checks, 11) == 0);
+    lend();
+    EXPECT(film_encode_line(NULL, 0, 65, out, 63) == FILM_INPUT_LENGTH && kept_after(0));
+    EXPECT(film_encode_line(zeros, 49, 65, out, 63) == FILM_INPUT_LENGTH && kept_after(0));
+    EXPECT(film_encode_line(zeros, 51, 5000, NULL, 0) == FILM_INPUT_LENGTH);
+    EXPECT(film_encode_line(text, 50, 65, NULL, 0) == FILM_OUTPUT_LENGTH);
+    for (int i = 0; i < wrongs; i++)
+        EXPECT(film_encode_line(text, 50, 5000, out, wrong[i]) == FILM_OUTPUT_LENGTH && kept_after(0));
+    text[49] = 64;
+    EXPECT(film_encode_line(text, 50, 5000, out, 63) == FILM_VALUE_OVER && kept_after(0));
+    EXPECT(film_encode_line(zeros, 50, 4096, out, 63) == FILM_NUMBER_OVER && kept_after(0));
+    EXPECT(film_encode_line(zeros, 50, 4095, out, 63) == FILM_DONE && out[50] == 63 && out[51] == 63);
+}
+
+static void reading(void) {
+    uint8_t word[FILM_CHARACTERS];
+    memcpy(word, z, 63);
+    word[60] ^= 5;
+    lend();
+    film_line r = film_read_line(word, 63, 1, out, 63);
+    EXPECT(r.answer == 0 && r.number == 0 && r.distance == 1 && memcmp(out, z, 63) == 0 && kept_after(63));
+    r = film_read_line_wanted(word, 63, 1, 0, out, 63);
+    EXPECT(r.answer == 0 && r.number == 0 && r.distance == 1);
+    lend();
+    EXPECT(refused_line(film_read_line_wanted(word, 63, 1, 1, out, 63), FILM_OTHER_NUMBER));
+    EXPECT(refused_line(film_read_line_wanted(word, 63, 5, 4096, out, 63), FILM_NUMBER_OVER));
+    EXPECT(refused_line(film_read_line_wanted(word, 63, 6, 4096, out, 63), FILM_RADIUS_OVER));
+    EXPECT(refused_line(film_read_line(word, 63, 255, out, 63), FILM_RADIUS_OVER));
+    EXPECT(refused_line(film_read_line(word, 63, 0, out, 63), FILM_NO_LINE));
+    EXPECT(refused_line(film_read_line(NULL, 0, 9, NULL, 0), FILM_INPUT_LENGTH));
+    EXPECT(refused_line(film_read_line_wanted(word, 63, 9, 9999, NULL, 0), FILM_OUTPUT_LENGTH));
+    for (int i = 0; i < wrongs; i++) {
+        EXPECT(refused_line(film_read_line(zeros, wrong[i], 9, out, 63), FILM_INPUT_LENGTH));
+        EXPECT(refused_line(film_read_line_wanted(zeros, wrong[i], 9, 9999, out, wrong[i]), FILM_INPUT_LENGTH));
+        EXPECT(refused_line(film_read_line(word, 63, 9, out, wrong[i]), FILM_OUTPUT_LENGTH));
+    }
+    for (int a = 0; a < 63; a++) {
+        memcpy(word, z, 63);
+        word[a] = (uint8_t)(64 + a * 3);
+        EXPECT(refused_line(film_read_line_wanted(word, 63, 9, 9999, out, 63), FILM_VALUE_OVER));
+    }
+}
+
+static void rings(void) {
+    static const uint8_t starts[] = {0, 3, 7, 10, 53, 56, 60, 104, 107, 110, 114, 117, 124};
+    uint8_t ring[FILM_CHARACTERS];
+    lend();
+    film_list r = film_list_ring(z, 63, 5, out, 126);
+    EXPECT(r.answer == 0 && r.count == 13 && memcmp(out, starts, 13) == 0 && kept_after(13));
+    for (int start = 0; start < 63; start++) {
+        for (int a = 0; a < 63; a++)
+            ring[(start + a) % 63] = z[a];
+        ring[31] ^= 7;
+        lend();
+        film_ring read = film_read_ring(ring, 63, 1, out, 63);
+        EXPECT(read.answer == 0 && read.start == start && read.number == 0 && read.distance == 1 && memcmp(out, z, 63) == 0 && kept_after(63));
+    }
+    lend();
+    EXPECT(film_list_ring(zeros, 63, 0, out, 126).answer == 0 && film_list_ring(zeros, 63, 0, out, 126).count == 0 && kept_after(0));
+    EXPECT(refused_ring(film_read_ring(zeros, 63, 0, out, 63), FILM_NO_LINE));
+    EXPECT(refused_ring(film_read_ring(zeros, 63, 3, out, 63), FILM_MANY_STARTS));
+    EXPECT(refused_ring(film_read_ring(z, 63, 6, out, 63), FILM_RADIUS_OVER));
+    EXPECT(refused_list(film_list_ring(z, 63, 6, out, 126), FILM_RADIUS_OVER));
+    EXPECT(refused_ring(film_read_ring(NULL, 0, 9, NULL, 0), FILM_INPUT_LENGTH));
+    EXPECT(refused_list(film_list_ring(NULL, 0, 9, NULL, 0), FILM_INPUT_LENGTH));
+    EXPECT(refused_list(film_list_ring(z, 63, 9, out, 63), FILM_OUTPUT_LENGTH));
+    EXPECT(refused_ring(film_read_ring(z, 63, 9, out, 126), FILM_OUTPUT_LENGTH));
+    for (int i = 0; i < wrongs; i++) {
+        EXPECT(refused_list(film_list_ring(zeros, wrong[i], 9, out, 126), FILM_INPUT_LENGTH));
+        EXPECT(refused_ring(film_read_ring(zeros, wrong[i], 9, out, 63), FILM_INPUT_LENGTH));
+        EXPECT(refused_list(film_list_ring(z, 63, 9, out, wrong[i]), FILM_OUTPUT_LENGTH));
+        EXPECT(refused_ring(film_read_ring(z, 63, 9, out, wrong[i]), FILM_OUTPUT_LENGTH));
+    }
+    for (int a = 0; a < 63; a++) {
+        memcpy(ring, z, 63);
+        ring[a] = 64;
+        EXPECT(refused_list(film_list_ring(ring, 63, 9, out, 126), FILM_VALUE_OVER));
+        EXPECT(refused_ring(film_read_ring(ring, 63, 9, out, 63), FILM_VALUE_OVER));
+    }
+}
+
+static void blocks(void) {
+    static const uint8_t proper[] = {3, 3}, one_wrong[] = {3, 2}, far[] = {3, 0}, over[] = {127, 128};
+    lend();
+    EXPECT(film_encode_block(proper, 1, out, 2) == FILM_DONE && out[0] == 3 && out[1] == 3 && kept_after(2));
+    film_block r = film_read_block(one_wrong, 2, out, 2);
+    EXPECT(r.answer == 0 && r.distance == 1 && memcmp(out, proper, 2) == 0 && kept_after(2));
+    r = film_read_block(proper, 2, out, 2);
+    EXPECT(r.answer == 0 && r.distance == 0 && memcmp(out, proper, 2) == 0);
+    lend();
+    EXPECT(refused_block(film_read_block(far, 2, out, 2), FILM_NO_BLOCK));
+    EXPECT(refused_block(film_read_block(NULL, 0, NULL, 0), FILM_ROW_COUNT));
+    EXPECT(film_encode_block(NULL, 0, NULL, 0) == FILM_ROW_COUNT);
+    EXPECT(film_encode_block(over, 2, out, 3) == FILM_VALUE_OVER && kept_after(0));
+    for (size_t rows = 0; rows < ROOM; rows++) {
+        int taken = rows >= 2 && rows <= 64;
+        lend();
+        r = film_read_block(zeros, rows, out, rows);
+        EXPECT(r.answer == (taken ? FILM_DONE : FILM_ROW_COUNT) && r.distance == 0 && kept_after(taken ? rows : 0));
+        lend();
+        EXPECT(refused_block(film_read_block(zeros, rows, out, rows + 1), taken ? FILM_OUTPUT_LENGTH : FILM_ROW_COUNT));
+        taken = rows >= 1 && rows <= 63;
+        EXPECT(film_encode_block(zeros, rows, out, rows) == (taken ? FILM_OUTPUT_LENGTH : FILM_ROW_COUNT) && kept_after(0));
+        EXPECT(film_encode_block(zeros, rows, out, rows + 1) == (taken ? FILM_DONE : FILM_ROW_COUNT) && kept_after(taken ? rows + 1 : 0));
+    }
+}
+
+static void registers(void) {
+    uint8_t text[FILM_TEXT], line[FILM_CHARACTERS];
+    for (int a = 0; a < FILM_TEXT; a++)
+        text[a] = (uint8_t)(a * 11 % 64);
+    EXPECT(film_encode_line(text, 50, 4094, line, 63) == FILM_DONE);
+    film_register held = {{0}, 0};
+    for (int a = 0; a < 52; a++) {
+        film_checked short_of = film_checks(held);
+        EXPECT(short_of.answer == FILM_REGISTER_SHORT && memcmp(short_of.checks, zeros, 11) == 0);
+        film_stepped taken = film_step(held, line[a]);
+        EXPECT(taken.answer == FILM_DONE && taken.after.count == a + 1);
+        held = taken.after;
+    }
+    for (int twice = 0; twice < 2; twice++) {
+        film_checked checked = film_checks(held);
+        EXPECT(checked.answer == FILM_DONE && memcmp(checked.checks, line + 52, 11) == 0);
+    }
+    film_stepped more = film_step(held, 0);
+    EXPECT(more.answer == FILM_REGISTER_FULL && memcmp(&more.after, &held, sizeof held) == 0);
+    static const int counts[] = {0, 51, 52, 53, 255}, steps[] = {2, 2, 11, 11, 11}, checks[] = {12, 12, 2, 11, 11};
+    for (int i = 0; i < 5; i++) {
+        film_register odd = {{0, 0, 0, 0, 0, 0, 0, 0, 0, 0, 64}, (uint8_t)counts[i]};
+        film_stepped step = film_step(odd, 1);
+        EXPECT(step.answer == steps[i] && memcmp(&step.after, &odd, sizeof odd) == 0);
+        film_checked checked = film_checks(odd);
+        EXPECT(checked.answer == checks[i] && memcmp(checked.checks, zeros, 11) == 0);
+    }
+    film_register empty = {{0}, 0};
+    EXPECT(film_step(empty, 64).answer == FILM_VALUE_OVER && film_step(empty, 63).answer == FILM_DONE);
+}
+
+int main(void) {
+    EXPECT(sizeof(film_line) == 4 && sizeof(film_ring) == 6 && sizeof(film_register) == 12 && sizeof(film_stepped) == 13 && sizeof(film_checked) == 12);
+    EXPECT(film_encode_line(zeros, 50, 0, z, 63) == FILM_DONE && z[52] == 32 && z[55] == 8 && z[62] == 1);
+    field();
+    encoding();
+    reading();
+    rings();
+    blocks();
+    registers();
+    printf("C: %d failed\n", failures);
+    return failures != 0;
+}

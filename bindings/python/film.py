@@ -1,0 +1,247 @@
+"""The proved film reader: lines, rings and parity blocks, and the field and the register below them.
+
+Every function takes whatever bytes and numbers it is handed. It gives back what it found, or raises Refused, which says by number why not.
+A character is a byte from 0 to 63, and a line is 63 of them.
+
+    >>> line = encode_line(bytes(50), 65)
+    >>> read_line(line, 5).number
+    65
+    >>> read_ring(line[4:] + line[:4], 1).start
+    59
+
+Where an output `out` is handed in (a bytearray), it is written in place of a new one; in a refusal it is as it was. The shared library is
+the one that FILM_LIBRARY names, or target/film/libfilm.so of this checkout, which tools/build-library makes.
+"""
+
+import ctypes
+import os
+import pathlib
+from typing import NamedTuple, Optional
+
+_u8 = ctypes.c_uint8
+_u16 = ctypes.c_uint16
+
+# The numbered answers, as the paper gives them; 0 is a success.
+REFUSALS = {
+    1: "a line or ring is not 63 long, or text to be encoded is not 50 long",
+    2: "a character (a register's too) or field operand is over 63, or a data row over 127",
+    3: "radius over 5",
+    4: "number over 4095",
+    5: "output length differs from the one stated",
+    6: "no line within the radius; for ring reading, an empty list",
+    7: "the line found has another number than the wanted one",
+    8: "block rows outside 2..64, or data rows outside 1..63",
+    9: "no proper block within one bit",
+    10: "ring reading: two or more entries in the list",
+    11: "a step is asked of a register that holds 52 characters, or anything of one whose count is above 52",
+    12: "register holds fewer than 52",
+}
+
+
+class Refused(Exception):
+    """A call was refused; `number` is the paper's number of the reason."""
+
+    def __init__(self, number):
+        super().__init__(f"refused ({number}): {REFUSALS[number]}")
+        self.number = number
+
+
+class LineRead(NamedTuple):
+    """A line that was read, its number, and in how many addresses the word differs from it."""
+
+    line: bytes
+    number: int
+    distance: int
+
+
+class RingRead(NamedTuple):
+    """The one start that is listed (0 to 62 forward, 63 to 125 backward), the line there, its number, and its distance."""
+
+    line: bytes
+    start: int
+    number: int
+    distance: int
+
+
+class BlockRead(NamedTuple):
+    """The proper block, and its distance from the rows: 0 or 1 bit."""
+
+    rows: bytes
+    distance: int
+
+
+class _Element(ctypes.Structure):
+    _fields_ = [("answer", _u8), ("value", _u8)]
+
+
+class _Line(ctypes.Structure):
+    _fields_ = [("answer", _u8), ("distance", _u8), ("number", _u16)]
+
+
+class _List(ctypes.Structure):
+    _fields_ = [("answer", _u8), ("count", _u8)]
+
+
+class _Ring(ctypes.Structure):
+    _fields_ = [("answer", _u8), ("start", _u8), ("distance", _u8), ("number", _u16)]
+
+
+class _Block(ctypes.Structure):
+    _fields_ = [("answer", _u8), ("distance", _u8)]
+
+
+class _Register(ctypes.Structure):
+    _fields_ = [("held", _u8 * 11), ("count", _u8)]
+
+
+class _Stepped(ctypes.Structure):
+    _fields_ = [("after", _Register), ("answer", _u8)]
+
+
+class _Checked(ctypes.Structure):
+    _fields_ = [("checks", _u8 * 11), ("answer", _u8)]
+
+
+def _load():
+    beside = pathlib.Path(__file__).resolve().parents[2] / "target" / "film" / "libfilm.so"
+    library = ctypes.CDLL(os.environ.get("FILM_LIBRARY", str(beside)))
+    given = [ctypes.c_char_p, ctypes.c_size_t]
+    output = [ctypes.POINTER(_u8), ctypes.c_size_t]
+    for name, takes, gives in [
+        ("sum", [_u8, _u8], _Element),
+        ("product", [_u8, _u8], _Element),
+        ("quotient", [_u8, _u8], _Element),
+        ("encode_line", given + [_u16] + output, _u8),
+        ("step", [_Register, _u8], _Stepped),
+        ("checks", [_Register], _Checked),
+        ("read_line", given + [_u8] + output, _Line),
+        ("read_line_wanted", given + [_u8, _u16] + output, _Line),
+        ("list_ring", given + [_u8] + output, _List),
+        ("read_ring", given + [_u8] + output, _Ring),
+        ("encode_block", given + output, _u8),
+        ("read_block", given + output, _Block),
+    ]:
+        function = getattr(library, "film_" + name)
+        function.argtypes, function.restype = takes, gives
+    return library
+
+
+_library = _load()
+
+
+def _bounded(number, most):
+    """A number as the library takes it. One that is too large for its type is handed on as the largest, which is refused for the same reason."""
+    if number < 0:
+        raise ValueError("a negative number")
+    return min(number, most)
+
+
+def _byte(number):
+    return _bounded(number, 255)
+
+
+def _bytes(given):
+    """Bytes, or what bytes() makes of a list of numbers."""
+    if isinstance(given, int):
+        raise TypeError("bytes are needed, not a number")
+    return bytes(given)
+
+
+def _call(function, given, *numbers, room, out):
+    """Calls a function with an input, some numbers and an output: gives what it answers, and the output as it is then."""
+    given = _bytes(given)
+    if out is None:
+        out = bytearray(room)
+    lent = (_u8 * len(out)).from_buffer(out)
+    result = function(given, len(given), *numbers, lent, len(out))
+    answer = result if isinstance(result, int) else result.answer
+    if answer:
+        raise Refused(answer)
+    return result, bytes(out)
+
+
+def _value(result):
+    if result.answer:
+        raise Refused(result.answer)
+    return result.value
+
+
+def sum(u, v):
+    """The sum of two elements of the field."""
+    return _value(_library.film_sum(_byte(u), _byte(v)))
+
+
+def product(u, v):
+    """The product of two elements of the field."""
+    return _value(_library.film_product(_byte(u), _byte(v)))
+
+
+def quotient(u, v):
+    """The quotient of two elements of the field; a quotient by 0 is 0."""
+    return _value(_library.film_quotient(_byte(u), _byte(v)))
+
+
+def encode_line(text, number, out: Optional[bytearray] = None) -> bytes:
+    """The one line with these 50 characters of text and this number."""
+    return _call(_library.film_encode_line, text, _bounded(number, 65535), room=63, out=out)[1]
+
+
+def read_line(word, radius, wanted=None, out: Optional[bytearray] = None) -> LineRead:
+    """The line within the radius of 63 characters; where a number is wanted, it must carry that number."""
+    if wanted is None:
+        result, line = _call(_library.film_read_line, word, _byte(radius), room=63, out=out)
+    else:
+        result, line = _call(_library.film_read_line_wanted, word, _byte(radius), _bounded(wanted, 65535), room=63, out=out)
+    return LineRead(line, result.number, result.distance)
+
+
+def list_ring(ring, radius, out: Optional[bytearray] = None) -> "list[int]":
+    """The starts at which some line lies within the radius, in rising order."""
+    result, starts = _call(_library.film_list_ring, ring, _byte(radius), room=126, out=out)
+    return list(starts[: result.count])
+
+
+def read_ring(ring, radius, out: Optional[bytearray] = None) -> RingRead:
+    """The line at the one start that is listed."""
+    result, line = _call(_library.film_read_ring, ring, _byte(radius), room=63, out=out)
+    return RingRead(line, result.start, result.number, result.distance)
+
+
+def encode_block(data, out: Optional[bytearray] = None) -> bytes:
+    """The one proper block with these 1 to 63 data rows."""
+    data = _bytes(data)
+    return _call(_library.film_encode_block, data, room=len(data) + 1, out=out)[1]
+
+
+def read_block(rows, out: Optional[bytearray] = None) -> BlockRead:
+    """The proper block within one bit of 2 to 64 rows."""
+    rows = _bytes(rows)
+    result, block = _call(_library.film_read_block, rows, room=len(rows), out=out)
+    return BlockRead(block, result.distance)
+
+
+class Register:
+    """The recorder's register, which encodes by the character: eleven characters, highest degree first, and how many were taken."""
+
+    def __init__(self, held=bytes(11), count=0):
+        self.held = _bytes(held)
+        self.count = count
+        if len(self.held) != 11:
+            raise ValueError("a register holds eleven characters")
+
+    def _lent(self):
+        return _Register((_u8 * 11)(*self.held), _byte(self.count))
+
+    def step(self, character):
+        """Takes one more character; a refused step leaves the register as it was."""
+        result = _library.film_step(self._lent(), _byte(character))
+        if result.answer:
+            raise Refused(result.answer)
+        self.held, self.count = bytes(result.after.held), result.after.count
+
+    def checks(self) -> bytes:
+        """The checks, of a register that has taken 52 characters."""
+        result = _library.film_checks(self._lent())
+        if result.answer:
+            raise Refused(result.answer)
+        return bytes(result.checks)

@@ -1,0 +1,137 @@
+"""Tests of film.py: what each function gives, every refusal by its number, and outputs that stay as they were."""
+
+import doctest
+import unittest
+
+import film
+
+Z = film.encode_line(bytes(50), 0)
+
+
+class Tests(unittest.TestCase):
+    def refused(self, number, call, *given, room=None):
+        """The call is refused with this number, and an output of that length, if there is one, is left alone."""
+        named = {} if room is None else {"out": bytearray([170] * room)}
+        with self.assertRaises(film.Refused) as caught:
+            call(*given, **named)
+        self.assertEqual(caught.exception.number, number)
+        self.assertTrue(str(caught.exception).startswith(f"refused ({number}): "))
+        if room is not None:
+            self.assertEqual(named["out"], bytes([170] * room))
+
+    def test_field(self):
+        self.assertEqual((film.sum(5, 3), film.product(32, 2), film.product(33, 2)), (6, 3, 1))
+        self.assertEqual((film.quotient(5, 0), film.quotient(1, 2)), (0, 33))
+        for call in (film.sum, film.product, film.quotient):
+            for bad in (64, 255, 256, 320, 10**6):
+                self.refused(2, call, bad, 1)
+                self.refused(2, call, 1, bad)
+            self.assertRaises(ValueError, call, -1, 0)
+
+    def test_encoding(self):
+        text = bytes(a in (5, 6, 14, 15, 23, 24, 32, 33, 41, 42) for a in range(50))
+        line = film.encode_line(text, 65)
+        self.assertEqual(line, text + bytes([1, 1, 32, 0, 0, 8, 0, 0, 0, 1, 1, 0, 1]))
+        self.assertEqual(film.encode_line(list(text), 65), line)
+        out = bytearray(63)
+        film.encode_line(text, 65, out)
+        self.assertEqual(out, line)
+        for length in (0, 49, 51, 63):
+            self.refused(1, film.encode_line, bytes(length), 9999, room=length)
+        for room in (0, 50, 62, 64):
+            self.refused(5, film.encode_line, bytes([64] * 50), 9999, room=room)
+        for a in range(50):
+            self.refused(2, film.encode_line, bytes(64 * (b == a) for b in range(50)), 9999, room=63)
+        for number in (4096, 65535, 65536, 65536 + 65):
+            self.refused(4, film.encode_line, text, number, room=63)
+        self.assertRaises(TypeError, film.encode_line, 50, 0)
+
+    def test_reading(self):
+        word = bytearray(film.encode_line(bytes(range(50)), 65))
+        line = bytes(word)
+        for a in (0, 20, 40, 51, 62):
+            word[a] ^= 9
+        for wanted in (None, 65):
+            self.assertEqual(film.read_line(word, 5, wanted), (line, 65, 5))
+        self.refused(6, film.read_line, word, 4, room=63)
+        self.refused(7, film.read_line, word, 5, 66, room=63)
+        self.refused(4, film.read_line, word, 5, 4096, room=63)
+        self.refused(4, film.read_line, word, 5, 65536 + 65, room=63)
+        for radius in (6, 255, 256, 261):
+            self.refused(3, film.read_line, word, radius, 4096, room=63)
+        for length in (0, 1, 62, 64, 1000):
+            self.refused(1, film.read_line, bytes(length), 9, 9999, room=length)
+            self.refused(5, film.read_line, word, 9, 9999, room=length)
+        for a in range(63):
+            self.refused(2, film.read_line, Z[:a] + b"\x40" + Z[a + 1 :], 9, 9999, room=63)
+
+    def test_rings(self):
+        out = bytearray([170] * 126)
+        self.assertEqual(film.list_ring(Z, 4, out), [0, 104, 107, 110, 114, 117, 124])
+        self.assertEqual(out[7:], bytes([170] * 119))
+        self.assertEqual(film.list_ring(bytes([1] * 63), 0), [])
+        self.assertEqual(film.list_ring(bytes(63), 3), list(range(126)))
+        line = film.encode_line(bytes(range(50)), 4095)
+        for start in range(63):
+            ring = bytearray(line[63 - start :] + line[: 63 - start])
+            ring[start] ^= 1
+            self.assertEqual(film.read_ring(ring, 1), (line, start, 4095, 1))
+            self.assertEqual(film.list_ring(ring, 1), [start])
+        self.assertEqual(film.read_ring(line[::-1], 0), (line, 125, 4095, 0))
+        self.refused(6, film.read_ring, bytes([1] * 63), 0, room=63)
+        self.refused(10, film.read_ring, Z, 4, room=63)
+        for call, room in ((film.list_ring, 126), (film.read_ring, 63)):
+            for radius in (6, 256):
+                self.refused(3, call, Z, radius, room=room)
+            for length in (0, 1, 62, 64, 125, 127):
+                self.refused(1, call, bytes(length), 9, room=length)
+                self.refused(5, call, Z, 9, room=length)
+            self.refused(5, call, Z, 9, room=189 - room)
+            self.refused(2, call, Z[:62] + b"\xff", 9, room=room)
+
+    def test_blocks(self):
+        self.assertEqual(film.encode_block([3]), bytes([3, 3]))
+        self.assertEqual(film.read_block([3, 2]), (bytes([3, 3]), 1))
+        self.assertEqual(film.read_block([3, 3]), (bytes([3, 3]), 0))
+        self.refused(9, film.read_block, [3, 0], room=2)
+        for rows in range(256):
+            if 2 <= rows <= 64:
+                self.assertEqual(film.read_block(bytes(rows)), (bytes(rows), 0))
+                self.refused(5, film.read_block, bytes(rows), room=rows + 1)
+            else:
+                self.refused(8, film.read_block, bytes(rows), room=rows)
+            if 1 <= rows <= 63:
+                self.assertEqual(film.encode_block(bytes(rows)), bytes(rows + 1))
+                self.refused(5, film.encode_block, bytes([255] * rows), room=rows)
+                self.refused(2, film.encode_block, bytes([128] * rows), room=rows + 1)
+            else:
+                self.refused(8, film.encode_block, bytes(rows), room=rows + 1)
+
+    def test_register(self):
+        line = film.encode_line(bytes(range(50)), 4094)
+        register = film.Register()
+        for c in line[:52]:
+            self.refused(12, register.checks)
+            register.step(c)
+        self.assertEqual((register.checks(), register.checks()), (line[52:], line[52:]))
+        held = register.held
+        self.refused(11, register.step, 0)
+        self.assertEqual((register.held, register.count), (held, 52))
+        for count, step, checks in ((0, 2, 12), (51, 2, 12), (52, 11, 2), (53, 11, 11), (255, 11, 11), (256 + 52, 11, 11)):
+            odd = film.Register([64] + [0] * 10, count)
+            self.refused(step, odd.step, 0)
+            self.refused(checks, odd.checks)
+            self.assertEqual((odd.held, odd.count), (bytes([64] + [0] * 10), count))
+        for c in (64, 255, 256):
+            self.refused(2, film.Register().step, c)
+        odd = film.Register(range(1, 12), 51)
+        odd.step(1)
+        self.assertEqual((odd.held, odd.count), (bytes([2, 3, 4, 5, 6, 7, 8, 9, 10, 11, 0]), 52))
+        self.assertRaises(ValueError, film.Register, bytes(10))
+
+    def test_documentation(self):
+        self.assertEqual(doctest.testmod(film).failed, 0)
+
+
+if __name__ == "__main__":
+    unittest.main()

@@ -1,0 +1,115 @@
+//! The library's functions as include/film.h declares them, each with a function that calls it with slices.
+
+use crate::Register;
+
+#[repr(C)]
+pub struct Element {
+    pub answer: u8,
+    pub value: u8,
+}
+
+#[repr(C)]
+pub struct Line {
+    pub answer: u8,
+    pub distance: u8,
+    pub number: u16,
+}
+
+#[repr(C)]
+pub struct List {
+    pub answer: u8,
+    pub count: u8,
+}
+
+#[repr(C)]
+pub struct Ring {
+    pub answer: u8,
+    pub start: u8,
+    pub distance: u8,
+    pub number: u16,
+}
+
+#[repr(C)]
+pub struct Block {
+    pub answer: u8,
+    pub distance: u8,
+}
+
+#[repr(C)]
+pub struct Stepped {
+    pub after: Register,
+    pub answer: u8,
+}
+
+#[repr(C)]
+pub struct Checked {
+    pub checks: [u8; 11],
+    pub answer: u8,
+}
+
+#[link(name = "film", kind = "static")]
+extern "C" {
+    fn film_sum(u: u8, v: u8) -> Element;
+    fn film_product(u: u8, v: u8) -> Element;
+    fn film_quotient(u: u8, v: u8) -> Element;
+    fn film_encode_line(text: *const u8, text_len: usize, number: u16, out: *mut u8, out_len: usize) -> u8;
+    fn film_read_line(word: *const u8, word_len: usize, radius: u8, out: *mut u8, out_len: usize) -> Line;
+    fn film_read_line_wanted(word: *const u8, word_len: usize, radius: u8, wanted: u16, out: *mut u8, out_len: usize) -> Line;
+    fn film_list_ring(ring: *const u8, ring_len: usize, radius: u8, out: *mut u8, out_len: usize) -> List;
+    fn film_read_ring(ring: *const u8, ring_len: usize, radius: u8, out: *mut u8, out_len: usize) -> Ring;
+    fn film_encode_block(data: *const u8, data_len: usize, out: *mut u8, out_len: usize) -> u8;
+    fn film_read_block(rows: *const u8, rows_len: usize, out: *mut u8, out_len: usize) -> Block;
+    fn film_step(before: Register, c: u8) -> Stepped;
+    fn film_checks(taken: Register) -> Checked;
+}
+
+// Each call is safe: the library takes every value of its numbers, and a slice is good for its length; an output that is lent
+// to be written overlaps no other slice.
+
+pub fn sum(u: u8, v: u8) -> Element {
+    unsafe { film_sum(u, v) }
+}
+
+pub fn product(u: u8, v: u8) -> Element {
+    unsafe { film_product(u, v) }
+}
+
+pub fn quotient(u: u8, v: u8) -> Element {
+    unsafe { film_quotient(u, v) }
+}
+
+pub fn encode_line(text: &[u8], number: u16, out: &mut [u8]) -> u8 {
+    unsafe { film_encode_line(text.as_ptr(), text.len(), number, out.as_mut_ptr(), out.len()) }
+}
+
+pub fn read_line(word: &[u8], radius: u8, out: &mut [u8]) -> Line {
+    unsafe { film_read_line(word.as_ptr(), word.len(), radius, out.as_mut_ptr(), out.len()) }
+}
+
+pub fn read_line_wanted(word: &[u8], radius: u8, wanted: u16, out: &mut [u8]) -> Line {
+    unsafe { film_read_line_wanted(word.as_ptr(), word.len(), radius, wanted, out.as_mut_ptr(), out.len()) }
+}
+
+pub fn list_ring(ring: &[u8], radius: u8, out: &mut [u8]) -> List {
+    unsafe { film_list_ring(ring.as_ptr(), ring.len(), radius, out.as_mut_ptr(), out.len()) }
+}
+
+pub fn read_ring(ring: &[u8], radius: u8, out: &mut [u8]) -> Ring {
+    unsafe { film_read_ring(ring.as_ptr(), ring.len(), radius, out.as_mut_ptr(), out.len()) }
+}
+
+pub fn encode_block(data: &[u8], out: &mut [u8]) -> u8 {
+    unsafe { film_encode_block(data.as_ptr(), data.len(), out.as_mut_ptr(), out.len()) }
+}
+
+pub fn read_block(rows: &[u8], out: &mut [u8]) -> Block {
+    unsafe { film_read_block(rows.as_ptr(), rows.len(), out.as_mut_ptr(), out.len()) }
+}
+
+pub fn step(before: Register, c: u8) -> Stepped {
+    unsafe { film_step(before, c) }
+}
+
+pub fn checks(taken: Register) -> Checked {
+    unsafe { film_checks(taken) }
+}

@@ -1,0 +1,177 @@
+//! Tests of the crate: what each function gives, every refusal by its number, and outputs that stay as they were.
+
+use film::{Refusal, Register};
+
+/// The line of zero text and number 0.
+fn z() -> [u8; 63] {
+    let mut line = [0; 63];
+    film::encode_line(&[0; 50], 0, &mut line).unwrap();
+    line
+}
+
+fn turned(line: [u8; 63], start: usize) -> [u8; 63] {
+    core::array::from_fn(|place| line[(place + 63 - start) % 63])
+}
+
+/// Runs a call with an output of a length, and sees that the output is left alone and that the refusal has this number.
+fn refused<T: core::fmt::Debug>(number: u8, room: usize, call: impl FnOnce(&mut [u8]) -> Result<T, Refusal>) {
+    let mut output = vec![170; room];
+    assert_eq!(call(&mut output).unwrap_err().number(), number);
+    assert_eq!(output, vec![170; room]);
+}
+
+#[test]
+fn the_field() {
+    assert_eq!(film::sum(5, 3), Ok(6));
+    assert_eq!(film::product(32, 2), Ok(3));
+    assert_eq!(film::product(33, 2), Ok(1));
+    assert_eq!(film::quotient(5, 0), Ok(0));
+    assert_eq!(film::quotient(1, 2), Ok(33));
+    for call in [film::sum, film::product, film::quotient] {
+        assert_eq!(call(64, 0), Err(Refusal::ValueOver));
+        assert_eq!(call(0, 255), Err(Refusal::ValueOver));
+    }
+}
+
+#[test]
+fn a_line() {
+    let mut text = [0; 50];
+    for a in [5, 6, 14, 15, 23, 24, 32, 33, 41, 42] {
+        text[a] = 1;
+    }
+    let mut line = [0; 63];
+    film::encode_line(&text, 65, &mut line).unwrap();
+    assert_eq!(line[..50], text);
+    assert_eq!(line[50..], [1, 1, 32, 0, 0, 8, 0, 0, 0, 1, 1, 0, 1]);
+    let mut word = line;
+    for (a, c) in word.iter_mut().take(50).step_by(10).enumerate() {
+        *c ^= a as u8 + 1;
+    }
+    let mut output = [0; 63];
+    for wanted in [None, Some(65)] {
+        let read = film::read_line(&word, 5, wanted, &mut output).unwrap();
+        assert_eq!((read.number, read.distance, output), (65, 5, line));
+    }
+    refused(6, 63, |out| film::read_line(&word, 4, None, out));
+    refused(7, 63, |out| film::read_line(&word, 5, Some(66), out));
+    refused(6, 63, |out| film::read_line(&word, 4, Some(66), out));
+}
+
+#[test]
+fn a_line_refused() {
+    for length in [0, 1, 62, 64, 1000] {
+        refused(1, 63, |out| film::read_line(&vec![0; length], 5, None, out));
+        refused(5, length, |out| film::read_line(&z(), 5, Some(0), out));
+        refused(1, length, |out| film::read_line(&[], 9, Some(9999), out));
+    }
+    for length in [0, 49, 51, 63] {
+        refused(1, 63, |out| film::encode_line(&vec![0; length], 0, out));
+    }
+    for length in [0, 50, 62, 64] {
+        refused(5, length, |out| film::encode_line(&[0; 50], 0, out));
+    }
+    for a in 0..63 {
+        let mut word = z();
+        word[a] = 64;
+        refused(2, 63, |out| film::read_line(&word, 6, None, out));
+        refused(2, 126, |out| film::list_ring(&word, 6, out).map(<[u8]>::len));
+        refused(2, 63, |out| film::read_ring(&word, 6, out));
+    }
+    for a in 0..50 {
+        let mut text = [0; 50];
+        text[a] = 255;
+        refused(2, 63, |out| film::encode_line(&text, 4096, out));
+    }
+    refused(3, 63, |out| film::read_line(&z(), 6, Some(4096), out));
+    refused(4, 63, |out| film::read_line(&z(), 5, Some(4096), out));
+    refused(4, 63, |out| film::encode_line(&[0; 50], 4096, out));
+    film::encode_line(&[63; 50], 4095, &mut [0; 63]).unwrap();
+}
+
+#[test]
+fn a_ring() {
+    let mut output = [170; 126];
+    let starts: &[u8] = &[0, 104, 107, 110, 114, 117, 124];
+    assert_eq!(film::list_ring(&z(), 4, &mut output).unwrap(), starts);
+    assert_eq!(output[7..], [170; 119]);
+    assert_eq!(film::list_ring(&[1; 63], 0, &mut output).unwrap(), &[] as &[u8]);
+    let mut line = [0; 63];
+    for start in 0..63 {
+        let mut ring = turned(z(), start);
+        ring[0] ^= 1;
+        let read = film::read_ring(&ring, 1, &mut line).unwrap();
+        assert_eq!((read.start as usize, read.number, read.distance, line), (start, 0, 1, z()));
+    }
+    let mut backward = z();
+    backward.reverse();
+    assert_eq!(film::read_ring(&backward, 0, &mut line).unwrap().start, 125);
+    refused(6, 63, |out| film::read_ring(&[1; 63], 0, out));
+    refused(10, 63, |out| film::read_ring(&z(), 4, out));
+    refused(3, 63, |out| film::read_ring(&z(), 6, out));
+    refused(3, 126, |out| film::list_ring(&z(), 6, out).map(<[u8]>::len));
+    for length in [0, 62, 64, 125, 127] {
+        refused(1, 63, |out| film::read_ring(&vec![0; length], 6, out));
+        refused(1, 126, |out| film::list_ring(&vec![0; length], 6, out).map(<[u8]>::len));
+        refused(5, length, |out| film::read_ring(&z(), 6, out));
+        refused(5, length, |out| film::list_ring(&z(), 6, out).map(<[u8]>::len));
+    }
+}
+
+#[test]
+fn a_block() {
+    let mut block = [0; 2];
+    film::encode_block(&[3], &mut block).unwrap();
+    assert_eq!(block, [3, 3]);
+    let mut output = [0; 2];
+    assert_eq!(film::read_block(&[3, 2], &mut output), Ok(1));
+    assert_eq!(output, [3, 3]);
+    assert_eq!(film::read_block(&[3, 3], &mut output), Ok(0));
+    refused(9, 2, |out| film::read_block(&[3, 0], out));
+    for rows in [0, 1, 65, 255] {
+        refused(8, rows, |out| film::read_block(&vec![0; rows], out));
+    }
+    for rows in [0, 64, 255] {
+        refused(8, rows + 1, |out| film::encode_block(&vec![0; rows], out));
+    }
+    for room in [0, 1, 3] {
+        refused(5, room, |out| film::read_block(&[3, 2], out));
+        refused(5, room, |out| film::encode_block(&[255], out));
+    }
+    refused(2, 2, |out| film::encode_block(&[128], out));
+    film::encode_block(&[127; 63], &mut [0; 64]).unwrap();
+}
+
+#[test]
+fn a_register() {
+    let mut line = [0; 63];
+    let text: [u8; 50] = core::array::from_fn(|a| a as u8);
+    film::encode_line(&text, 4094, &mut line).unwrap();
+    let mut register = Register::new();
+    for &c in &line[..52] {
+        assert_eq!(register.checks(), Err(Refusal::RegisterShort));
+        register.step(c).unwrap();
+    }
+    assert_eq!(register.checks().unwrap(), line[52..]);
+    assert_eq!(register.checks().unwrap(), line[52..]);
+    let before = register;
+    assert_eq!((register.step(0), register), (Err(Refusal::RegisterFull), before));
+    for (count, step, checks) in [(0, 2, 12), (51, 2, 12), (52, 11, 2), (53, 11, 11), (255, 11, 11)] {
+        let mut odd = Register { held: [64; 11], count };
+        assert_eq!((odd.step(0).unwrap_err().number(), odd), (step, Register { held: [64; 11], count }));
+        assert_eq!(odd.checks().unwrap_err().number(), checks);
+    }
+    assert_eq!(Register::new().step(64), Err(Refusal::ValueOver));
+    // a register that no text gives
+    let mut odd = Register { held: [1, 2, 3, 4, 5, 6, 7, 8, 9, 10, 11], count: 51 };
+    odd.step(1).unwrap();
+    assert_eq!(odd, Register { held: [2, 3, 4, 5, 6, 7, 8, 9, 10, 11, 0], count: 52 });
+    assert_eq!(odd.checks(), Ok([34, 3, 4, 13, 6, 7, 8, 9, 10, 11, 1]));
+}
+
+#[test]
+fn numbers_of_refusals() {
+    for (i, refusal) in Refusal::ALL.into_iter().enumerate() {
+        assert_eq!(refusal.number() as usize, i + 1);
+        assert!(refusal.to_string().starts_with(&format!("refused ({}): ", i + 1)));
+    }
+}

@@ -1,0 +1,2 @@
+-- The library's theorems.
+pub mod Theorems

@@ -1,0 +1,147 @@
+-- The library's theorems: any two results that a function allows are equal, its struct and its output.
+use mathlib.Core.Path.{_≡_, refl, sym, ap, ap₂, _∙_}
+use mathlib.Core.List.{List, [], _∷_}
+use Prim.Native.Nat.{ℕ, _≤_}
+use native.Mathlib.Omega.{arith}
+use lib.ListN.{length, getD, drop}
+use Rattle.refusal.proofs.Theorems.{one-result, one-reply}
+use Rattle.code.specs.Word.{number, distance}
+use Rattle.field.specs.Field.{sum, product, Quotient}
+use Rattle.field.specs.Promises as Field
+use Rattle.field.proofs.Theorems.{one-quotient}
+use Rattle.encoder.specs.declared.Register.{Register}
+use Rattle.encoder.specs.Promises as Encoder
+use Rattle.encoder.proofs.Theorems as encoder
+use Rattle.encoder.proofs.Running.{one-stepping, one-asking}
+use Rattle.line.specs.declared.Wanted.{Wanted}
+use Rattle.line.specs.Promises as Line
+use Rattle.line.proofs.Theorems.{one-within}
+use Rattle.ring.specs.Ring.{placed}
+use Rattle.ring.specs.Promises as Ring
+use Rattle.ring.proofs.Those.{one-those}
+use Rattle.ring.proofs.Placing.{kept}
+use Rattle.block.specs.Promises as Block
+use Rattle.block.proofs.Results.{one-read-as, one-encoded-as}
+use Rattle.film.specs.declared.FilmElement.{FilmElement}
+use Rattle.film.specs.declared.FilmLine.{FilmLine}
+use Rattle.film.specs.declared.FilmList.{FilmList}
+use Rattle.film.specs.declared.FilmRing.{FilmRing}
+use Rattle.film.specs.declared.FilmBlock.{FilmBlock}
+use Rattle.film.specs.declared.FilmRegister.{FilmRegister}
+use Rattle.film.specs.declared.FilmStepped.{FilmStepped}
+use Rattle.film.specs.declared.FilmChecked.{FilmChecked}
+use Rattle.film.specs.Numbers.{elementNumbers, lineNumbers, listNumbers, ringNumbers, blockNumbers, registerOf, checkNumbers}
+
+-- ---- the field
+
+one-element : (r s : FilmElement) → elementNumbers r ≡ elementNumbers s → r ≡ s
+one-element r s e = ap (λ (l : List ℕ). record { answer = getD l 0 0; value = getD l 1 0 }) e
+
+one-operation : (Is : ℕ → Type 0) (u v : ℕ) → (v ≤ 63 → (w x : ℕ) → Is w → Is x → w ≡ x)
+    → (r s : FilmElement) → Field.Operates Is u v (elementNumbers r) → Field.Operates Is u v (elementNumbers s) → r ≡ s
+unfolding Field.Operates
+one-operation Is u v one r s p q =
+    one-element r s
+    (one-reply (Field.operandTests u v) (Field.OneValue Is) 1
+    (λ t f g a b. a .alone ∙ ap (λ (w : ℕ). w ∷ []) (one (t .0 .second) (a .value) (b .value) (a .is) (b .is)) ∙ sym (b .alone))
+    (elementNumbers r) (elementNumbers s) p q)
+
+pub one-sum : (u v : ℕ) (r s : FilmElement) → Field.Sums u v (elementNumbers r) → Field.Sums u v (elementNumbers s) → r ≡ s
+one-sum u v = one-operation (λ w. w ≡ sum u v) u v (λ h w x p q. p ∙ sym q)
+
+pub one-product : (u v : ℕ) (r s : FilmElement) → Field.Multiplies u v (elementNumbers r) → Field.Multiplies u v (elementNumbers s) → r ≡ s
+one-product u v = one-operation (λ w. w ≡ product u v) u v (λ h w x p q. p ∙ sym q)
+
+pub one-division : (u v : ℕ) (r s : FilmElement) → Field.Divides u v (elementNumbers r) → Field.Divides u v (elementNumbers s) → r ≡ s
+one-division u v = one-operation (Quotient u v) u v (λ h w x p q. one-quotient u v w x (omega arith) p q)
+
+-- ---- the encoder
+
+pub one-encoding : (t : List ℕ) (n : ℕ) (old : List ℕ) (a b : ℕ) (x y : List ℕ)
+    → Encoder.Encodes t n old (a ∷ []) x → Encoder.Encodes t n old (b ∷ []) y → (a ≡ b) × (x ≡ y)
+unfolding Encoder.Encodes
+one-encoding t n old a b x y p q =
+    let e =
+    one-result (Encoder.encodingTests t n (length old)) (λ fields l. (fields ≡ []) × Encoder.LineWith t n l) 0
+    (λ _ f g x y s t. (s .0 ∙ sym (t .0), encoder.one-line _ _ x y (s .1) (t .1))) old (a ∷ []) (b ∷ []) x y p q in
+    (ap (λ (l : List ℕ). getD l 0 0) (e .0), e .1)
+
+one-register : (r s : FilmRegister) → registerOf r ≡ registerOf s → r ≡ s
+one-register r s e = ap (λ (q : Register). record { held = q .held; count = q .count }) e
+
+pub one-step : (r : FilmRegister) (c : ℕ) (a b : FilmStepped) → Encoder.Steps (registerOf r) c (a .answer ∷ []) (registerOf (a .register))
+    → Encoder.Steps (registerOf r) c (b .answer ∷ []) (registerOf (b .register)) → a ≡ b
+one-step r c a b p q =
+    let e = one-stepping (registerOf r) c (a .answer ∷ []) (b .answer ∷ []) (registerOf (a .register)) (registerOf (b .register)) p q in
+    ap₂ (λ (x : FilmRegister) (y : ℕ). record { register = x; answer = y }) (one-register (a .register) (b .register) (e .1)) (ap (λ (l : List ℕ). getD l 0 0) (e .0))
+
+pub one-check : (r : FilmRegister) (a b : FilmChecked) → Encoder.Checks (registerOf r) (checkNumbers a) → Encoder.Checks (registerOf r) (checkNumbers b) → a ≡ b
+one-check r a b p q =
+    ap (λ (l : List ℕ). record { checks = drop 1 l; answer = getD l 0 0 }) (one-asking (registerOf r) (checkNumbers a) (checkNumbers b) p q)
+
+-- ---- reading a line
+
+one-line : (r s : FilmLine) → lineNumbers r ≡ lineNumbers s → r ≡ s
+one-line r s e = ap (λ (l : List ℕ). record { answer = getD l 0 0; distance = getD l 2 0; number = getD l 1 0 }) e
+
+pub one-line-read : (w : List ℕ) (t : ℕ) (wanted : Wanted) (old : List ℕ) (r s : FilmLine) (x y : List ℕ)
+    → Line.Reads w t wanted old (lineNumbers r) x → Line.Reads w t wanted old (lineNumbers s) y → (r ≡ s) × (x ≡ y)
+unfolding Line.Reads
+one-line-read w t wanted old r s x y p q =
+    let e =
+    one-result (Line.readingTests w t wanted (length old)) (Line.ReadAs t w) 2
+    (λ passed f g x y a b.
+    let same : x ≡ y = one-within t w x y (passed .0) (passed .1 .1 .1 .0) (a .0) (b .0) in
+    (a .1 ∙ ap (λ (l : List ℕ). number l ∷ distance w l ∷ []) same ∙ sym (b .1), same))
+    old (lineNumbers r) (lineNumbers s) x y p q in
+    (one-line r s (e .0), e .1)
+
+-- ---- rings
+
+one-list : (r s : FilmList) → listNumbers r ≡ listNumbers s → r ≡ s
+one-list r s e = ap (λ (l : List ℕ). record { answer = getD l 0 0; count = getD l 1 0 }) e
+
+pub one-ring-list : (ring : List ℕ) (t : ℕ) (old : List ℕ) (r s : FilmList) (x y : List ℕ)
+    → Ring.ListsRing ring t old (listNumbers r) x → Ring.ListsRing ring t old (listNumbers s) y → (r ≡ s) × (x ≡ y)
+unfolding Ring.ListsRing
+one-ring-list ring t old r s x y p q =
+    let e =
+    one-result (Ring.listingTests ring t (length old)) (Ring.Lists ring t old) 1
+    (λ _ f g x y a b.
+    let same : a .starts ≡ b .starts = one-those (a .these) (b .these) in
+    (rw same at (a .count) ∙ sym (b .count), rw same at (a .output) ∙ sym (b .output)))
+    old (listNumbers r) (listNumbers s) x y p q in
+    (one-list r s (e .0), e .1)
+
+one-ring : (r s : FilmRing) → ringNumbers r ≡ ringNumbers s → r ≡ s
+one-ring r s e = ap (λ (l : List ℕ). record { answer = getD l 0 0; start = getD l 1 0; distance = getD l 3 0; number = getD l 2 0 }) e
+
+pub one-ring-read : (ring : List ℕ) (t : ℕ) (old : List ℕ) (r s : FilmRing) (x y : List ℕ)
+    → Ring.ReadsRing ring t old (ringNumbers r) x → Ring.ReadsRing ring t old (ringNumbers s) y → (r ≡ s) × (x ≡ y)
+unfolding Ring.ReadsRing
+one-ring-read ring t old r s x y p q =
+    let e =
+    one-result (Ring.readingTests ring t (length old)) (Ring.ReadsAt ring t) 3
+    (λ passed f g x y a b.
+    let same : a .start ≡ b .start = ap (λ (l : List ℕ). getD l 0 0) (one-those (a .only) (b .only)) in
+    let line : x ≡ y = one-within t (placed (b .start) ring) x y (kept (b .start) .long ring) (passed .1 .1 .1 .0) (rw same at (a .within)) (b .within) in
+    (a .shows ∙ ap₂ (λ (k : ℕ) (l : List ℕ). k ∷ number l ∷ distance (placed k ring) l ∷ []) same line ∙ sym (b .shows), line))
+    old (ringNumbers r) (ringNumbers s) x y p q in
+    (one-ring r s (e .0), e .1)
+
+-- ---- blocks
+
+pub one-block-encoding : (given old : List ℕ) (a b : ℕ) (x y : List ℕ) → Block.Encodes given old (a ∷ []) x → Block.Encodes given old (b ∷ []) y → (a ≡ b) × (x ≡ y)
+unfolding Block.Encodes
+one-block-encoding given old a b x y p q =
+    let e = one-result (Block.encodingTests given (length old)) (Block.EncodedAs given) 0 (λ _. one-encoded-as given) old (a ∷ []) (b ∷ []) x y p q in
+    (ap (λ (l : List ℕ). getD l 0 0) (e .0), e .1)
+
+one-block : (r s : FilmBlock) → blockNumbers r ≡ blockNumbers s → r ≡ s
+one-block r s e = ap (λ (l : List ℕ). record { answer = getD l 0 0; distance = getD l 1 0 }) e
+
+pub one-block-read : (rows old : List ℕ) (r s : FilmBlock) (x y : List ℕ) → Block.Reads rows old (blockNumbers r) x → Block.Reads rows old (blockNumbers s) y → (r ≡ s) × (x ≡ y)
+unfolding Block.Reads
+one-block-read rows old r s x y p q =
+    let e = one-result (Block.readingTests rows (length old)) (Block.ReadAs rows) 1 (λ _. one-read-as rows) old (blockNumbers r) (blockNumbers s) x y p q in
+    (one-block r s (e .0), e .1)

@@ -1,0 +1,2 @@
+-- What the library gives back, as the paper's numbers.
+pub mod Numbers

@@ -1,0 +1,35 @@
+-- The library's answers in C's layout, as the numbers that the entry points' promises speak of, and its register as the encoder's.
+use mathlib.Core.List.{List, [], _∷_}
+use Prim.Native.Nat.{ℕ}
+use Rattle.encoder.specs.declared.Register.{Register}
+use Rattle.film.specs.declared.FilmElement.{FilmElement}
+use Rattle.film.specs.declared.FilmLine.{FilmLine}
+use Rattle.film.specs.declared.FilmList.{FilmList}
+use Rattle.film.specs.declared.FilmRing.{FilmRing}
+use Rattle.film.specs.declared.FilmBlock.{FilmBlock}
+use Rattle.film.specs.declared.FilmRegister.{FilmRegister}
+use Rattle.film.specs.declared.FilmChecked.{FilmChecked}
+
+abbrev pub elementNumbers : FilmElement → List ℕ
+elementNumbers r = r .answer ∷ r .value ∷ []
+
+-- the number stands before the distance in the promise of reading a line
+abbrev pub lineNumbers : FilmLine → List ℕ
+lineNumbers r = r .answer ∷ r .number ∷ r .distance ∷ []
+
+abbrev pub listNumbers : FilmList → List ℕ
+listNumbers r = r .answer ∷ r .count ∷ []
+
+-- and in that of reading a ring the start stands before both
+abbrev pub ringNumbers : FilmRing → List ℕ
+ringNumbers r = r .answer ∷ r .start ∷ r .number ∷ r .distance ∷ []
+
+abbrev pub blockNumbers : FilmBlock → List ℕ
+blockNumbers r = r .answer ∷ r .distance ∷ []
+
+-- the same eleven characters and the same count
+abbrev pub registerOf : FilmRegister → Register
+registerOf r = record { held = r .held; count = r .count }
+
+abbrev pub checkNumbers : FilmChecked → List ℕ
+checkNumbers r = r .answer ∷ r .checks

@@ -1,0 +1,309 @@
+// The library that other programs link: each function hands its call to the entry point of that name and gives back the paper's numbers.
+ghost use mathlib.Core.Path.{_≡_};
+ghost use mathlib.Core.List.{[], _∷_};
+ghost use Rattle.field.specs.Promises as Field;
+ghost use Rattle.encoder.specs.Promises as Encoder;
+ghost use Rattle.line.specs.Promises as Line;
+ghost use Rattle.line.specs.declared.Wanted.the-variants.{Any, Number};
+ghost use Rattle.ring.specs.Promises as Ring;
+ghost use Rattle.block.specs.Promises as Block;
+ghost use Rattle.film.specs.Numbers.{elementNumbers, lineNumbers, listNumbers, ringNumbers, blockNumbers, registerOf, checkNumbers};
+use block::BlockEncoding;
+use block::BlockReading;
+use encoder::CheckAnswer;
+use encoder::LineEncoding;
+use encoder::Register;
+use encoder::StepAnswer;
+use field::Element;
+use line::LineReading;
+use line::Wanted;
+use ring::RingListing;
+use ring::RingReading;
+
+// The answer of an operation of the field, and its value.
+#[repr(C)]
+pub struct FilmElement {
+    pub answer: u8,
+    pub value: u8,
+}
+
+// The answer of reading a line, its distance and its number.
+#[repr(C)]
+pub struct FilmLine {
+    pub answer: u8,
+    pub distance: u8,
+    pub number: u16,
+}
+
+// The answer of listing a ring, and how many starts are listed.
+#[repr(C)]
+pub struct FilmList {
+    pub answer: u8,
+    pub count: u8,
+}
+
+// The answer of reading a ring, the start, the distance and the number.
+#[repr(C)]
+pub struct FilmRing {
+    pub answer: u8,
+    pub start: u8,
+    pub distance: u8,
+    pub number: u16,
+}
+
+// The answer of reading a block, and the distance.
+#[repr(C)]
+pub struct FilmBlock {
+    pub answer: u8,
+    pub distance: u8,
+}
+
+// The recorder's register: eleven characters, highest degree first, and how many were taken.
+#[repr(C)]
+pub struct FilmRegister {
+    pub held: [u8; 11],
+    pub count: u8,
+}
+
+// The register after a step, and the answer.
+#[repr(C)]
+pub struct FilmStepped {
+    pub register: FilmRegister,
+    pub answer: u8,
+}
+
+// The eleven checks, zeros in a refusal, and the answer.
+#[repr(C)]
+pub struct FilmChecked {
+    pub checks: [u8; 11],
+    pub answer: u8,
+}
+
+// The answer of an operation of the field in the library's form.
+fn element(given: Element) -> FilmElement
+    ensures { λ r. ⌜ elementNumbers r ≡ Field.elementNumbers given ⌝ }
+{
+    match given {
+        Element::Value(value) => FilmElement {
+            answer: 0,
+            value: value,
+        },
+        Element::Refused(why) => FilmElement {
+            answer: refusal::number(why),
+            value: 0,
+        },
+    }
+}
+
+// The sum of two operands.
+#[no_mangle]
+pub extern "C" fn film_sum(u: u8, v: u8) -> FilmElement
+    ensures { λ r. ⌜ Field.Sums u v (elementNumbers r) ⌝ }
+{
+    element(field::sum(u, v))
+}
+
+// The product of two operands.
+#[no_mangle]
+pub extern "C" fn film_product(u: u8, v: u8) -> FilmElement
+    ensures { λ r. ⌜ Field.Multiplies u v (elementNumbers r) ⌝ }
+{
+    element(field::product(u, v))
+}
+
+// The quotient of two operands.
+#[no_mangle]
+pub extern "C" fn film_quotient(u: u8, v: u8) -> FilmElement
+    ensures { λ r. ⌜ Field.Divides u v (elementNumbers r) ⌝ }
+{
+    element(field::quotient(u, v))
+}
+
+// Encodes a line at once.
+#[no_mangle]
+pub extern "C" fn film_encode_line(text: &[u8], number: u16, out: &mut [u8]) -> u8
+    ensures { λ r. ⌜ Encoder.Encodes (now (text .entry)) number (now (out .entry)) (r ∷ []) (now (out .exit)) ⌝ }
+{
+    let given = encoder::encode_line(text, number, out);
+    match given {
+        LineEncoding::Written => 0,
+        LineEncoding::Refused(why) => refusal::number(why),
+    }
+}
+
+// The answer of reading a line in the library's form.
+fn line_read(given: LineReading) -> FilmLine
+    ensures { λ r. ⌜ lineNumbers r ≡ Line.readingNumbers given ⌝ }
+{
+    match given {
+        LineReading::Line { number, distance } => FilmLine {
+            answer: 0,
+            distance: distance,
+            number: number, // at an even place: no padding stands before it
+        },
+        LineReading::Refused(why) => FilmLine {
+            answer: refusal::number(why),
+            distance: 0,
+            number: 0,
+        },
+    }
+}
+
+// Reads a line with no wanted number.
+#[no_mangle]
+pub extern "C" fn film_read_line(word: &[u8], radius: u8, out: &mut [u8]) -> FilmLine
+    ensures { λ r. ⌜ Line.Reads (now (word .entry)) radius Any (now (out .entry)) (lineNumbers r) (now (out .exit)) ⌝ }
+{
+    line_read(line::read_line(word, radius, Wanted::Any, out))
+}
+
+// Reads a line that must carry the wanted number.
+#[no_mangle]
+pub extern "C" fn film_read_line_wanted(
+    word: &[u8],
+    radius: u8,
+    wanted: u16,
+    out: &mut [u8],
+) -> FilmLine
+    ensures { λ r. ⌜ Line.Reads (now (word .entry)) radius (Number wanted) (now (out .entry)) (lineNumbers r) (now (out .exit)) ⌝ }
+{
+    line_read(line::read_line(word, radius, Wanted::Number(wanted), out))
+}
+
+// Lists a ring.
+#[no_mangle]
+pub extern "C" fn film_list_ring(ring: &[u8], radius: u8, out: &mut [u8]) -> FilmList
+    ensures { λ r. ⌜ Ring.ListsRing (now (ring .entry)) radius (now (out .entry)) (listNumbers r) (now (out .exit)) ⌝ }
+{
+    let given = ring::list_ring(ring, radius, out);
+    match given {
+        RingListing::Listed { count } => FilmList {
+            answer: 0,
+            count: count,
+        },
+        RingListing::Refused(why) => FilmList {
+            answer: refusal::number(why),
+            count: 0,
+        },
+    }
+}
+
+// Reads a ring.
+#[no_mangle]
+pub extern "C" fn film_read_ring(ring: &[u8], radius: u8, out: &mut [u8]) -> FilmRing
+    ensures { λ r. ⌜ Ring.ReadsRing (now (ring .entry)) radius (now (out .entry)) (ringNumbers r) (now (out .exit)) ⌝ }
+{
+    let given = ring::read_ring(ring, radius, out);
+    match given {
+        RingReading::Line {
+            start,
+            number,
+            distance,
+        } => FilmRing {
+            answer: 0,
+            start: start,
+            distance: distance,
+            number: number,
+        },
+        RingReading::Refused(why) => FilmRing {
+            answer: refusal::number(why),
+            start: 0,
+            distance: 0,
+            number: 0,
+        },
+    }
+}
+
+// Encodes a block.
+#[no_mangle]
+pub extern "C" fn film_encode_block(given: &[u8], out: &mut [u8]) -> u8
+    ensures { λ r. ⌜ Block.Encodes (now (given .entry)) (now (out .entry)) (r ∷ []) (now (out .exit)) ⌝ }
+{
+    let encoding = block::encode_block(given, out);
+    match encoding {
+        BlockEncoding::Written => 0,
+        BlockEncoding::Refused(why) => refusal::number(why),
+    }
+}
+
+// Reads a block.
+#[no_mangle]
+pub extern "C" fn film_read_block(rows: &[u8], out: &mut [u8]) -> FilmBlock
+    ensures { λ r. ⌜ Block.Reads (now (rows .entry)) (now (out .entry)) (blockNumbers r) (now (out .exit)) ⌝ }
+{
+    let given = block::read_block(rows, out);
+    match given {
+        BlockReading::Block { distance } => FilmBlock {
+            answer: 0,
+            distance: distance, // 0 or 1 bit
+        },
+        BlockReading::Refused(why) => FilmBlock {
+            answer: refusal::number(why),
+            distance: 0,
+        },
+    }
+}
+
+// The number of a step's answer.
+fn step_number(given: StepAnswer) -> u8
+    ensures { λ r. ⌜ r ∷ [] ≡ Encoder.stepNumbers given ⌝ }
+{
+    match given {
+        StepAnswer::Taken => 0,
+        StepAnswer::Refused(why) => refusal::number(why),
+    }
+}
+
+// The register takes one more character.
+#[no_mangle]
+pub extern "C" fn film_step(register: FilmRegister, c: u8) -> FilmStepped
+    ensures { λ r. ⌜ Encoder.Steps (registerOf register) c (r .answer ∷ []) (registerOf (r .register)) ⌝ }
+{
+    let held = register.held;
+    let before = Register {
+        held: held,
+        count: register.count,
+    };
+    let stepped = before.step(c);
+    let given = stepped.answer;
+    let answer = step_number(given);
+    let after = stepped.register;
+    let left = after.held;
+    FilmStepped {
+        register: FilmRegister {
+            held: left,
+            count: after.count,
+        },
+        answer: answer,
+    }
+}
+
+// The number of the answer when checks are asked for.
+fn check_number(given: CheckAnswer) -> u8
+    ensures { λ r. ⌜ r ≡ Encoder.answerNumber given ⌝ }
+{
+    match given {
+        CheckAnswer::Given => 0,
+        CheckAnswer::Refused(why) => refusal::number(why),
+    }
+}
+
+// The checks of a register that has taken 52 characters.
+#[no_mangle]
+pub extern "C" fn film_checks(register: FilmRegister) -> FilmChecked
+    ensures { λ r. ⌜ Encoder.Checks (registerOf register) (checkNumbers r) ⌝ }
+{
+    let held = register.held;
+    let asked = Register {
+        held: held,
+        count: register.count,
+    };
+    let checked = asked.checks();
+    let given = checked.answer;
+    let answer = check_number(given);
+    let checks = checked.checks;
+    FilmChecked {
+        checks: checks,
+        answer: answer,
+    }
+}

@@ -1,0 +1,149 @@
+/* The proved film reader, for programs in C and C++: every entry point, with the paper's numbers.
+ *
+ * Link target/film/libfilm.a or target/film/libfilm.so (tools/build-library makes both); x86-64 Linux.
+ *
+ * A slice is a pointer and a length. The pointer has to be good for that many bytes; where the length is 0 it may be
+ * NULL. An output must not overlap an input. Nothing else is asked of a caller: any lengths, any bytes and any numbers
+ * are taken and answered.
+ *
+ * Every function answers 0 when it is done, and else one of the refusals below. A refusal's other fields are 0, and the
+ * output is as it was. Nothing is kept between calls, so any number of threads may call at once.
+ *
+ * A character is a byte from 0 to 63. A line is 63 characters: addresses 0 to 49 hold text, 50 and 51 the high and the
+ * low six bits of the line number, 52 to 62 checks. The distance of two words is the count of addresses where they
+ * differ. */
+#ifndef FILM_H
+#define FILM_H
+
+#include <stddef.h>
+#include <stdint.h>
+
+#ifdef __cplusplus
+extern "C" {
+#endif
+
+/* ---- Numbered answers. Each is given then and at no other time, in the order that each function states. */
+
+enum {
+    FILM_DONE = 0,
+    FILM_INPUT_LENGTH = 1,    /* a line or ring is not 63 long, or text to be encoded is not 50 long */
+    FILM_VALUE_OVER = 2,      /* a character (a register's too) or field operand is over 63, or a data row over 127 */
+    FILM_RADIUS_OVER = 3,     /* radius over 5 */
+    FILM_NUMBER_OVER = 4,     /* number over 4095 */
+    FILM_OUTPUT_LENGTH = 5,   /* output length differs from the one stated */
+    FILM_NO_LINE = 6,         /* no line within the radius; for ring reading, an empty list */
+    FILM_OTHER_NUMBER = 7,    /* the line found has another number than the wanted one */
+    FILM_ROW_COUNT = 8,       /* block rows outside 2..64, or data rows outside 1..63 */
+    FILM_NO_BLOCK = 9,        /* no proper block within one bit */
+    FILM_MANY_STARTS = 10,    /* ring reading: two or more entries in the list */
+    FILM_REGISTER_FULL = 11,  /* a step of a register that holds 52 characters, or anything of one whose count is above 52 */
+    FILM_REGISTER_SHORT = 12  /* register holds fewer than 52 */
+};
+
+/* ---- Lengths, in bytes. */
+
+enum {
+    FILM_TEXT = 50,       /* text to be encoded */
+    FILM_CHARACTERS = 63, /* a line, a ring, and the output of encoding and reading them */
+    FILM_STARTS = 126,    /* the output of listing a ring */
+    FILM_CHECKS = 11      /* a register's characters, and the checks */
+};
+
+/* ---- The field of 64 elements: sum, product and quotient. A quotient by 0 is 0. Refusals: 2. */
+
+typedef struct film_element {
+    uint8_t answer;
+    uint8_t value;
+} film_element;
+
+film_element film_sum(uint8_t u, uint8_t v);
+film_element film_product(uint8_t u, uint8_t v);
+film_element film_quotient(uint8_t u, uint8_t v);
+
+/* ---- Encoding a line at once: 50 characters of text and a number from 0 to 4095; the output, 63 bytes, gets the one
+ * line with that text and number. Refusals: 1, 5, 2, 4. */
+
+uint8_t film_encode_line(const uint8_t *text, size_t text_len, uint16_t number, uint8_t *out, size_t out_len);
+
+/* ---- Encoding by the character. A register is eleven characters, highest degree first, and a count; {{0}, 0} has taken
+ * none. It goes in and comes back by value. */
+
+typedef struct film_register {
+    uint8_t held[FILM_CHECKS];
+    uint8_t count;
+} film_register;
+
+typedef struct film_stepped {
+    film_register after; /* the register after the step; as it was in a refusal */
+    uint8_t answer;
+} film_stepped;
+
+typedef struct film_checked {
+    uint8_t checks[FILM_CHECKS]; /* the characters of addresses 52 to 62 */
+    uint8_t answer;
+} film_checked;
+
+/* Takes one more character: one step of the division on what is held. Refusals: 11, 2. */
+film_stepped film_step(film_register before, uint8_t c);
+
+/* The checks of a register that has taken 52 characters; the register stays the caller's. Refusals: 11, 12, 2. */
+film_checked film_checks(film_register taken);
+
+/* ---- Reading a line: 63 characters and a radius from 0 to 5. If a line lies within the radius it is the only one: the
+ * output, 63 bytes, gets it, and the answer holds its number and its distance from the word. */
+
+typedef struct film_line {
+    uint8_t answer;
+    uint8_t distance;
+    uint16_t number;
+} film_line;
+
+/* With no wanted number. Refusals: 1, 5, 2, 3, 6. */
+film_line film_read_line(const uint8_t *word, size_t word_len, uint8_t radius, uint8_t *out, size_t out_len);
+
+/* The line must carry the wanted number. Refusals: 1, 5, 2, 3, 4, 6, 7. */
+film_line film_read_line_wanted(const uint8_t *word, size_t word_len, uint8_t radius, uint16_t wanted, uint8_t *out, size_t out_len);
+
+/* ---- A ring of 63 characters. Start k from 0 to 62 is forward: address a is taken from ring place (k + a) mod 63. Start
+ * 63 + s, with s from 0 to 62, is backward: address a is taken from place (s - a) mod 63. */
+
+typedef struct film_list {
+    uint8_t answer;
+    uint8_t count;
+} film_list;
+
+typedef struct film_ring {
+    uint8_t answer;
+    uint8_t start;
+    uint8_t distance;
+    uint16_t number;
+} film_ring;
+
+/* Lists the starts at which some line lies within the radius: the first `count` bytes of the output, 126 bytes, get them
+ * in rising order, and the others stay. An empty list is no refusal. Refusals: 1, 5, 2, 3. */
+film_list film_list_ring(const uint8_t *ring, size_t ring_len, uint8_t radius, uint8_t *out, size_t out_len);
+
+/* Reads the line at the one start that is listed into the output, 63 bytes. Refusals: 1, 5, 2, 3, 6, 10. */
+film_ring film_read_ring(const uint8_t *ring, size_t ring_len, uint8_t radius, uint8_t *out, size_t out_len);
+
+/* ---- A block: 2 to 64 rows of eight bits; the lowest seven bits of all but the last row are data, the highest bit is the
+ * row check, and the last row holds the column checks. It is proper when every row and every column holds an even number
+ * of ones. */
+
+typedef struct film_block {
+    uint8_t answer;
+    uint8_t distance;
+} film_block;
+
+/* Takes 1 to 63 data rows, each at most 127, and an output one longer, which gets the one proper block with those data
+ * rows. Refusals: 8, 5, 2. */
+uint8_t film_encode_block(const uint8_t *data, size_t data_len, uint8_t *out, size_t out_len);
+
+/* The output, as long as the rows, gets the proper block at distance 0 or 1 bit from them. Refusals: 8, 5, 9. */
+film_block film_read_block(const uint8_t *rows, size_t rows_len, uint8_t *out, size_t out_len);
+
+#ifdef __cplusplus
+}
+#endif
+
+#endif

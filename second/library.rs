@@ -1,0 +1,370 @@
+//! The comparison through the library: every function of include/film.h is called with many inputs, and its answer and its output are held
+//! against the second program's own.
+//!
+//! tools/compare-library builds and runs it: library ROUNDS [SEED]. Each output lies between two rows of bytes that must stay, and so does each
+//! input, which must stay too. All pairs of operands are tried, and every wrong length up to 300; the rest is random, the same in every run with
+//! that seed. At the end each call must have given each answer that it can give.
+
+// Of the second program only what answers is called here; what writes the stored files is not.
+#![allow(dead_code)]
+
+mod block;
+mod code;
+mod encoder;
+mod field;
+mod line;
+mod random;
+mod ring;
+
+use code::{added, marks, with_errors, Code};
+use line::{number, random_addresses, random_errors, random_line};
+use random::Random;
+use std::collections::BTreeMap;
+use std::fmt::Debug;
+use std::process::exit;
+
+#[repr(C)]
+struct Element {
+    answer: u8,
+    value: u8,
+}
+
+#[repr(C)]
+struct Line {
+    answer: u8,
+    distance: u8,
+    number: u16,
+}
+
+#[repr(C)]
+struct List {
+    answer: u8,
+    count: u8,
+}
+
+#[repr(C)]
+struct Ring {
+    answer: u8,
+    start: u8,
+    distance: u8,
+    number: u16,
+}
+
+#[repr(C)]
+struct Block {
+    answer: u8,
+    distance: u8,
+}
+
+#[repr(C)]
+struct Register {
+    held: [u8; 11],
+    count: u8,
+}
+
+#[repr(C)]
+struct Stepped {
+    after: Register,
+    answer: u8,
+}
+
+#[repr(C)]
+struct Checked {
+    checks: [u8; 11],
+    answer: u8,
+}
+
+extern "C" {
+    fn film_sum(u: u8, v: u8) -> Element;
+    fn film_product(u: u8, v: u8) -> Element;
+    fn film_quotient(u: u8, v: u8) -> Element;
+    fn film_encode_line(text: *const u8, text_len: usize, number: u16, out: *mut u8, out_len: usize) -> u8;
+    fn film_read_line(word: *const u8, word_len: usize, radius: u8, out: *mut u8, out_len: usize) -> Line;
+    fn film_read_line_wanted(word: *const u8, word_len: usize, radius: u8, wanted: u16, out: *mut u8, out_len: usize) -> Line;
+    fn film_list_ring(ring: *const u8, ring_len: usize, radius: u8, out: *mut u8, out_len: usize) -> List;
+    fn film_read_ring(ring: *const u8, ring_len: usize, radius: u8, out: *mut u8, out_len: usize) -> Ring;
+    fn film_encode_block(data: *const u8, data_len: usize, out: *mut u8, out_len: usize) -> u8;
+    fn film_read_block(rows: *const u8, rows_len: usize, out: *mut u8, out_len: usize) -> Block;
+    fn film_step(before: Register, c: u8) -> Stepped;
+    fn film_checks(taken: Register) -> Checked;
+}
+
+/// Each call, and every answer that it can give.
+const ANSWERS: [(&str, &[usize]); 12] = [
+    ("sum", &[0, 2]),
+    ("product", &[0, 2]),
+    ("quotient", &[0, 2]),
+    ("encode_line", &[0, 1, 2, 4, 5]),
+    ("read_line", &[0, 1, 2, 3, 5, 6]),
+    ("read_line_wanted", &[0, 1, 2, 3, 4, 5, 6, 7]),
+    ("list_ring", &[0, 1, 2, 3, 5]),
+    ("read_ring", &[0, 1, 2, 3, 5, 6, 10]),
+    ("encode_block", &[0, 2, 5, 8]),
+    ("read_block", &[0, 5, 8, 9]),
+    ("step", &[0, 2, 11]),
+    ("checks", &[0, 2, 11, 12]),
+];
+
+const UNTOUCHED: u8 = 170;
+const SIDE: usize = 64;
+
+/// Bytes that are lent to the library, between two rows of others.
+struct Lent {
+    memory: Vec<u8>,
+    length: usize,
+}
+
+impl Lent {
+    fn new(bytes: &[u8]) -> Lent {
+        let sides: Vec<u8> = (0..SIDE).map(|i| 0x55 ^ i as u8).collect();
+        Lent { memory: [&sides, bytes, &sides].concat(), length: bytes.len() }
+    }
+
+    fn pointer(&mut self) -> *mut u8 {
+        self.memory[SIDE..].as_mut_ptr()
+    }
+
+    /// The bytes, if the rows beside them stayed.
+    fn back(&self) -> Option<&[u8]> {
+        let stayed = self.memory[..SIDE] == self.memory[SIDE + self.length..] && (0..SIDE).all(|i| self.memory[i] == 0x55 ^ i as u8);
+        stayed.then_some(&self.memory[SIDE..SIDE + self.length])
+    }
+}
+
+struct Comparison {
+    code: Code,
+    random: Random,
+    /// How often each call gave each answer.
+    given: BTreeMap<(&'static str, usize), u64>,
+}
+
+impl Comparison {
+    /// Holds what the library gave against what is due, the answer first.
+    fn hold<T: PartialEq + Debug>(&mut self, call: &'static str, input: &dyn Debug, given: (Vec<usize>, T), due: (Vec<usize>, T)) {
+        if given != due {
+            println!("{call} differs at {input:?}\nlibrary {given:?}\nsecond  {due:?}");
+            exit(1);
+        }
+        *self.given.entry((call, due.0[0])).or_default() += 1;
+    }
+
+    /// Calls a function with an input and an output, and holds its numbers and its output against those that are due.
+    fn call(&mut self, name: &'static str, input: &[u8], numbers: &[usize], due: (Vec<usize>, Vec<u8>), call: impl FnOnce(*const u8, *mut u8) -> Vec<usize>) {
+        let mut lent = Lent::new(input);
+        let mut output = Lent::new(&vec![UNTOUCHED; due.1.len()]);
+        let given = call(lent.pointer(), output.pointer());
+        let as_it_was = lent.back() == Some(input);
+        let given = (given, (as_it_was, output.back().map(<[u8]>::to_vec)));
+        self.hold(name, &(input, numbers, due.1.len()), given, (due.0, (true, Some(due.1))));
+    }
+
+    fn encode_line(&mut self, text: &[u8], number: u16, room: usize) {
+        let (answer, output) = encoder::encode(text, number, room);
+        let due = (vec![answer as usize], output);
+        self.call("encode_line", text, &[number as usize], due, |given, out| unsafe {
+            vec![film_encode_line(given, text.len(), number, out, room) as usize]
+        });
+    }
+
+    fn read_line(&mut self, word: &[u8], radius: u8, wanted: Option<u16>, room: usize) {
+        let (answer, number, distance, output) = line::read(&self.code, word, radius, wanted, room);
+        let due = (vec![answer as usize, number as usize, distance], output);
+        let numbers = |r: Line| vec![r.answer as usize, r.number as usize, r.distance as usize];
+        match wanted {
+            None => self.call("read_line", word, &[radius as usize], due, |given, out| unsafe {
+                numbers(film_read_line(given, word.len(), radius, out, room))
+            }),
+            Some(wanted) => self.call("read_line_wanted", word, &[radius as usize, wanted as usize], due, |given, out| unsafe {
+                numbers(film_read_line_wanted(given, word.len(), radius, wanted, out, room))
+            }),
+        }
+    }
+
+    fn list_ring(&mut self, ring: &[u8], radius: u8, room: usize) {
+        let due = ring::list(&self.code, ring, radius, room);
+        self.call("list_ring", ring, &[radius as usize], due, |given, out| unsafe {
+            let r = film_list_ring(given, ring.len(), radius, out, room);
+            vec![r.answer as usize, r.count as usize]
+        });
+    }
+
+    fn read_ring(&mut self, ring: &[u8], radius: u8, room: usize) {
+        let due = ring::read(&self.code, ring, radius, room);
+        self.call("read_ring", ring, &[radius as usize], due, |given, out| unsafe {
+            let r = film_read_ring(given, ring.len(), radius, out, room);
+            vec![r.answer as usize, r.start as usize, r.number as usize, r.distance as usize]
+        });
+    }
+
+    fn encode_block(&mut self, data: &[u8], room: usize) {
+        let (answer, _, output) = block::encode(data, room);
+        let due = (vec![answer as usize], output);
+        self.call("encode_block", data, &[], due, |given, out| unsafe { vec![film_encode_block(given, data.len(), out, room) as usize] });
+    }
+
+    fn read_block(&mut self, rows: &[u8], room: usize) {
+        let (answer, distance, output) = block::read(rows, room);
+        let due = (vec![answer as usize, distance as usize], output);
+        self.call("read_block", rows, &[], due, |given, out| unsafe {
+            let r = film_read_block(given, rows.len(), out, room);
+            vec![r.answer as usize, r.distance as usize]
+        });
+    }
+
+    /// A step and asking, of one register; what the step leaves is given back.
+    fn register(&mut self, held: [u8; 11], count: u8, c: u8) -> ([u8; 11], u8) {
+        let mut second = encoder::Register { held: held.to_vec(), count };
+        let (answer, checks) = second.checks();
+        let r = unsafe { film_checks(Register { held, count }) };
+        self.hold("checks", &(held, count), (vec![r.answer as usize], r.checks.to_vec()), (vec![answer as usize], checks));
+        let answer = second.step(c);
+        let r = unsafe { film_step(Register { held, count }, c) };
+        let given = (vec![r.answer as usize], (r.after.held.to_vec(), r.after.count));
+        self.hold("step", &(held, count, c), given, (vec![answer as usize], (second.held, second.count)));
+        (r.after.held, r.after.count)
+    }
+
+    /// A number below one bound, or, one time in eight, below another.
+    fn below(&mut self, often: usize, seldom: usize) -> usize {
+        let bound = if self.random.below(8) == 0 { seldom } else { often };
+        self.random.below(bound)
+    }
+
+    /// All pairs of operands.
+    fn operands(&mut self) {
+        type Operation = (&'static str, unsafe extern "C" fn(u8, u8) -> Element, fn(u8, u8) -> u8);
+        let operations: [Operation; 3] =
+            [("sum", film_sum, |u, v| u ^ v), ("product", film_product, field::product), ("quotient", film_quotient, field::quotient)];
+        for (name, library, second) in operations {
+            for (u, v) in (0..=255).flat_map(|u| (0..=255).map(move |v| (u, v))) {
+                let r = unsafe { library(u, v) };
+                let due = if u > 63 || v > 63 { (vec![2], 0) } else { (vec![0], second(u, v)) };
+                self.hold(name, &(u, v), (vec![r.answer as usize], r.value), due);
+            }
+        }
+    }
+
+    /// Every length from 0 to 300 of each input and of each output, with other things wrong at times.
+    fn lengths(&mut self) {
+        let line = random_line(&self.code, &mut self.random);
+        for length in 0..=300 {
+            let high = [64, 256][length % 2];
+            let (input, radius, wanted) = (self.random.bytes(length, high), self.random.below(8) as u8, self.random.below(8192) as u16);
+            self.encode_line(&input, wanted, 63);
+            self.encode_line(&line[..50], wanted, length);
+            for wanted in [None, Some(wanted)] {
+                self.read_line(&input, radius, wanted, 63);
+                self.read_line(&line, radius, wanted, length);
+            }
+            self.list_ring(&input, radius, 126);
+            self.list_ring(&line, radius, length);
+            self.read_ring(&input, radius, 63);
+            self.read_ring(&line, radius, length);
+            self.read_block(&input, length);
+            self.read_block(&line, length);
+            self.encode_block(&input, length + 1);
+            self.encode_block(&line, length);
+            for room in 0..=70 {
+                self.read_block(&input[..length.min(70)], room);
+                self.encode_block(&input[..length.min(70)], room);
+            }
+        }
+    }
+
+    /// A line's text, character by character: the register holds what it should after each.
+    fn by_the_character(&mut self) {
+        let line = random_line(&self.code, &mut self.random);
+        let (mut held, mut count) = ([0; 11], 0);
+        for &c in &line[..52] {
+            (held, count) = self.register(held, count, c);
+        }
+        self.register(held, count, 0);
+        let checks = unsafe { film_checks(Register { held, count }).checks };
+        self.hold("checks", &line, (vec![0], checks.to_vec()), (vec![0], line[52..].to_vec()));
+    }
+
+    /// A register that no text need give: any characters, at times over 63, and any count, most often about 52.
+    fn any_register(&mut self) {
+        let mut held: [u8; 11] = self.random.bytes(11, 64).try_into().unwrap();
+        held[self.random.below(11)] = self.below(64, 256) as u8;
+        let count = match self.random.below(4) {
+            0 => self.random.below(256),
+            1 => self.random.below(52),
+            _ => 50 + self.random.below(5),
+        };
+        let c = self.below(64, 256) as u8;
+        self.register(held, count as u8, c);
+    }
+
+    /// A word: a line with some wrong characters, about as many as the radius; without its marks; dark; random; or with a byte over 63.
+    fn word(&mut self, radius: u8) -> Vec<u8> {
+        let line = random_line(&self.code, &mut self.random);
+        let count = (radius as usize).min(5) + self.random.below(3);
+        let count = if self.random.below(4) == 0 { self.random.below(9) } else { count.saturating_sub(self.random.below(3)) };
+        let errors = random_errors(&mut self.random, count);
+        match self.random.below(16) {
+            0 => with_errors(&added(&line, &marks()), &errors),
+            1 => with_errors(&[0; 63], &errors),
+            2 => self.random.bytes(63, 64),
+            3 => self.random.bytes(63, 256),
+            4 => {
+                let mut word = with_errors(&line, &errors);
+                word[random_addresses(&mut self.random, 1)[0]] |= 64 << self.random.below(2);
+                word
+            }
+            _ => with_errors(&line, &errors),
+        }
+    }
+
+    /// One random call of each kind.
+    fn round(&mut self, rings: bool) {
+        self.any_register();
+        let radius = self.below(6, 256) as u8;
+        let word = self.word(radius);
+        self.read_line(&word, radius, None, 63);
+        // the number at its characters, right where they are, and others, some of them over 4095
+        let near = number(&word) % 4096;
+        let wanted = [near, near, near ^ 1, self.random.below(4096) as u16, self.random.below(65536) as u16][self.random.below(5)];
+        self.read_line(&word, radius, Some(wanted), 63);
+        let mut text = self.random.bytes(50, 64);
+        text[self.random.below(50)] = self.below(64, 256) as u8;
+        let number = self.below(4096, 65536) as u16;
+        self.encode_line(&text, number, 63);
+        let rows = 1 + self.below(10, 70);
+        let mut data = self.random.bytes(rows, 128);
+        data[self.random.below(rows)] = self.below(128, 256) as u8;
+        self.encode_block(&data, rows + 1);
+        let rows = 2 + self.below(10, 63);
+        let wrong: Vec<(usize, usize)> = (0..self.random.below(4)).map(|_| (self.random.below(rows), self.random.below(8))).collect();
+        let block = block::flipped(&block::random_block(&mut self.random, rows), &wrong);
+        self.read_block(&block, rows);
+        if rings {
+            let word = self.word(radius);
+            let ring = ring::recorded(&word, self.random.below(126));
+            self.list_ring(&ring, radius, 126);
+            self.read_ring(&ring, radius, 63);
+        }
+    }
+}
+
+fn main() {
+    let numbers: Vec<u64> = std::env::args().skip(1).map(|word| word.parse().expect("library ROUNDS [SEED]")).collect();
+    let (rounds, seed) = (numbers.first().copied().unwrap_or(1000), numbers.get(1).copied().unwrap_or(1));
+    let mut comparison = Comparison { code: Code::new(), random: Random::new(seed), given: BTreeMap::new() };
+    comparison.operands();
+    comparison.lengths();
+    for i in 0..rounds {
+        comparison.round(i % 8 == 0);
+        if i % 64 == 0 {
+            comparison.by_the_character();
+        }
+    }
+    let mut missing = false;
+    for (call, answers) in ANSWERS {
+        let counts: Vec<String> = answers.iter().map(|&a| format!("{a}: {}", comparison.given.get(&(call, a)).unwrap_or(&0))).collect();
+        println!("{call}: {}", counts.join(", "));
+        missing |= answers.iter().any(|&a| !comparison.given.contains_key(&(call, a)));
+    }
+    println!("{} calls of the library, {}", comparison.given.values().sum::<u64>(), if missing { "and an answer that no call gave" } else { "no difference" });
+    exit(missing as i32);
+}

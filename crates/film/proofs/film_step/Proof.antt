@@ -1,4 +1,4 @@
--- `film::film_step` promises what `Register::step` does: the register goes in and comes back unchanged in form, and the number is the answer's.
+-- `film::film_step` promises what `Register::step` does: the register is handed on and back field by field, and the number is the answer's.
 use borrow.Author.Needs.{needs}
 use Rattle.film.proofs.film_step.Statement.{statement}
 use Rattle.film.proofs.film_step.Tie as tie

@@ -2,8 +2,8 @@
 //! against the second program's own.
 //!
 //! tools/compare-library builds and runs it: library ROUNDS [SEED]. Each output lies between two rows of bytes that must stay, and so does each
-//! input, which must stay too. All pairs of operands are tried, and every wrong length up to 300; the rest is random, the same in every run with
-//! that seed. At the end each call must have given each answer that it can give.
+//! input, which must stay too. All pairs of operands are tried, every length up to 300, a byte that is too high at every place, and the rows of the
+//! bench sheet; the rest is random, the same in every run with that seed. At the end each call must have given each answer that it can give.
 
 // Of the second program only what answers is called here; what writes the stored files is not.
 #![allow(dead_code)]
@@ -124,12 +124,15 @@ impl Lent {
         self.memory[SIDE..].as_mut_ptr()
     }
 
-    /// The bytes, if the rows beside them stayed.
+    /// The bytes, or nothing where a byte beside them was changed.
     fn back(&self) -> Option<&[u8]> {
         let stayed = self.memory[..SIDE] == self.memory[SIDE + self.length..] && (0..SIDE).all(|i| self.memory[i] == 0x55 ^ i as u8);
         stayed.then_some(&self.memory[SIDE..SIDE + self.length])
     }
 }
+
+/// The numbers of a call, the answer first, and its output.
+type Due = (Vec<usize>, Vec<u8>);
 
 struct Comparison {
     code: Code,
@@ -149,7 +152,7 @@ impl Comparison {
     }
 
     /// Calls a function with an input and an output, and holds its numbers and its output against those that are due.
-    fn call(&mut self, name: &'static str, input: &[u8], numbers: &[usize], due: (Vec<usize>, Vec<u8>), call: impl FnOnce(*const u8, *mut u8) -> Vec<usize>) {
+    fn call(&mut self, name: &'static str, input: &[u8], numbers: &[usize], due: Due, call: impl FnOnce(*const u8, *mut u8) -> Vec<usize>) {
         let mut lent = Lent::new(input);
         let mut output = Lent::new(&vec![UNTOUCHED; due.1.len()]);
         let given = call(lent.pointer(), output.pointer());
@@ -271,6 +274,56 @@ impl Comparison {
         }
     }
 
+    /// A byte that is too high at each place of each input.
+    fn high_bytes(&mut self) {
+        for place in 0..63 {
+            let mut word = random_line(&self.code, &mut self.random);
+            word[place] = 64 + self.random.below(192) as u8;
+            for radius in [5, 6] {
+                self.read_line(&word, radius, None, 63);
+                self.read_line(&word, radius, Some(4096), 63);
+                self.list_ring(&word, radius, 126);
+                self.read_ring(&word, radius, 63);
+            }
+            self.encode_line(&word[..50], 4096, 63);
+            let mut data = self.random.bytes(63, 128);
+            data[place] += 128;
+            self.encode_block(&data, 64);
+        }
+    }
+
+    /// The rows of the bench sheet, and a dark line and ring: 63 zeros.
+    fn bench_rows(&mut self) {
+        let z = marks();
+        for radius in 0..=6 {
+            for errors in 0..=6 {
+                let word = with_errors(&z, &random_errors(&mut self.random, errors));
+                for wanted in [None, Some(0), Some(1), Some(4095), Some(4096)] {
+                    self.read_line(&word, radius, wanted, 63);
+                }
+            }
+            for ring in [&z[..], &[0; 63]] {
+                self.read_line(ring, radius, None, 63);
+                self.list_ring(ring, radius, 126);
+                self.read_ring(ring, radius, 63);
+            }
+        }
+        for number in [0, 65, 4095, 4096] {
+            self.encode_line(&[0; 50], number, 63);
+        }
+        for rows in [[3, 3], [3, 2], [3, 0]] {
+            self.read_block(&rows, 2);
+        }
+        for rows in [1, 2, 64, 65] {
+            self.read_block(&vec![0; rows], rows);
+        }
+        for count in [0, 51, 52, 53, 255] {
+            for held in [0, 63, 64] {
+                self.register([held; 11], count, 1);
+            }
+        }
+    }
+
     /// A line's text, character by character: the register holds what it should after each.
     fn by_the_character(&mut self) {
         let line = random_line(&self.code, &mut self.random);
@@ -353,6 +406,8 @@ fn main() {
     let mut comparison = Comparison { code: Code::new(), random: Random::new(seed), given: BTreeMap::new() };
     comparison.operands();
     comparison.lengths();
+    comparison.high_bytes();
+    comparison.bench_rows();
     for i in 0..rounds {
         comparison.round(i % 8 == 0);
         if i % 64 == 0 {
@@ -365,6 +420,7 @@ fn main() {
         println!("{call}: {}", counts.join(", "));
         missing |= answers.iter().any(|&a| !comparison.given.contains_key(&(call, a)));
     }
-    println!("{} calls of the library, {}", comparison.given.values().sum::<u64>(), if missing { "and an answer that no call gave" } else { "no difference" });
+    let verdict = if missing { "and an answer that no call gave" } else { "no difference" };
+    println!("{} calls of the library, {verdict}", comparison.given.values().sum::<u64>());
     exit(missing as i32);
 }

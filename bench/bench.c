@@ -1,0 +1,313 @@
+/* The benchmark: the library, libfec and the second program on the same words, interleaved, the minimum of many rounds.
+ *
+ * bench/run builds and runs it. A time is that of the whole call, from the caller's characters to the caller's line, number and
+ * distance. libfec knows neither marks nor numbers nor rings, so a small adapter takes the marks off and puts them on again, and
+ * turns a ring 126 times. It tests no lengths and no characters, as the library does. Before anything is timed, all peers must
+ * give the same answers on all words. */
+#include "bench.h"
+#include "film.h"
+#include <fec.h>
+#include <stdio.h>
+#include <stdlib.h>
+#include <string.h>
+#include <time.h>
+
+/* ---- The library. */
+
+static void ours_encode(const uint8_t *input, uint8_t radius, reply *r) {
+    (void)radius;
+    r->answer = film_encode_line(input, 50, (uint16_t)(input[50] * 64 + input[51]), r->out, 63);
+    r->distance = 0, r->number = 0, r->length = 63;
+}
+
+static void ours_encode_by_character(const uint8_t *input, uint8_t radius, reply *r) {
+    (void)radius;
+    film_register taken = {{0}, 0};
+    for (int a = 0; a < 52; a++)
+        taken = film_step(taken, input[a]).after;
+    film_checked checked = film_checks(taken);
+    memcpy(r->out, input, 52);
+    memcpy(r->out + 52, checked.checks, 11);
+    r->answer = checked.answer, r->distance = 0, r->number = 0, r->length = 63;
+}
+
+static void ours_read(const uint8_t *input, uint8_t radius, reply *r) {
+    film_line line = film_read_line(input, 63, radius, r->out, 63);
+    r->answer = line.answer, r->distance = line.distance, r->number = line.number, r->length = line.answer == 0 ? 63 : 0;
+}
+
+static void ours_list(const uint8_t *input, uint8_t radius, reply *r) {
+    film_list list = film_list_ring(input, 63, radius, r->out, 126);
+    r->answer = list.answer, r->distance = 0, r->number = 0, r->length = list.count;
+}
+
+static void ours_block(const uint8_t *input, uint8_t radius, reply *r) {
+    (void)radius;
+    film_block block = film_read_block(input, 9, r->out, 9);
+    r->answer = block.answer, r->distance = block.distance, r->number = 0, r->length = block.answer == 0 ? 9 : 0;
+}
+
+/* ---- libfec: six bits, x^6 + x + 1, roots from α^58 on, one apart, eleven of them, nothing padded. */
+
+static void *fec;
+
+static void marks(uint8_t *word) {
+    word[52] ^= 32;
+    word[55] ^= 8;
+    word[62] ^= 1;
+}
+
+/* It has no encoder by the character: a whole line stands for both, and so it does for the second program, whose register is not written
+ * for speed. */
+static void fec_encode(const uint8_t *input, uint8_t radius, reply *r) {
+    (void)radius;
+    memcpy(r->out, input, 52);
+    encode_rs_char(fec, r->out, r->out + 52);
+    marks(r->out);
+    r->answer = 0, r->distance = 0, r->number = 0, r->length = 63;
+}
+
+/* The number of characters that were mended, or -1. */
+static int fec_mend(uint8_t *word) {
+    marks(word);
+    int mended = decode_rs_char(fec, word, NULL, 0);
+    marks(word);
+    return mended;
+}
+
+static void fec_read(const uint8_t *input, uint8_t radius, reply *r) {
+    memcpy(r->out, input, 63);
+    int mended = fec_mend(r->out);
+    if (mended < 0 || mended > radius) {
+        r->answer = 6, r->distance = 0, r->number = 0, r->length = 0;
+        return;
+    }
+    r->answer = 0, r->distance = (uint8_t)mended, r->number = (uint16_t)(r->out[50] * 64 + r->out[51]), r->length = 63;
+}
+
+static void fec_list(const uint8_t *input, uint8_t radius, reply *r) {
+    uint8_t ring[126], word[63], back[126];
+    r->answer = 0, r->distance = 0, r->number = 0, r->length = 0;
+    for (int i = 0; i < 126; i++)
+        ring[i] = input[i % 63], back[i] = input[(125 - i) % 63];
+    for (int k = 0; k < 126; k++) {
+        memcpy(word, k < 63 ? ring + k : back + (62 - (k - 63)), 63);
+        int mended = fec_mend(word);
+        if (mended >= 0 && mended <= radius)
+            r->out[r->length++] = (uint8_t)k;
+    }
+}
+
+/* libfec has no parity blocks. The peer here is plain C: parities of rows and columns, one bit flipped at most. */
+static void plain_block(const uint8_t *input, uint8_t radius, reply *r) {
+    (void)radius;
+    uint8_t columns = 0;
+    int odd = 0, row = 0;
+    for (int i = 0; i < 9; i++) {
+        columns ^= input[i];
+        if (__builtin_parity(input[i]))
+            odd++, row = i;
+    }
+    int faults = __builtin_popcount(columns);
+    r->answer = (odd == 0 && faults == 0) || (odd == 1 && faults == 1) ? 0 : 9;
+    r->distance = 0, r->number = 0, r->length = 0;
+    if (r->answer == 0) {
+        memcpy(r->out, input, 9);
+        r->out[row] ^= columns;
+        r->distance = (uint8_t)faults, r->length = 9;
+    }
+}
+
+/* ---- The rows, and their words. */
+
+enum { LINES = 128, RINGS = 4, OURS = 0, FEC = 1, SECOND = 2, PEERS = 3, SELDOM = 20 };
+
+static const char *const peer_names[PEERS] = {"film", "libfec", "second"};
+
+typedef enum { ENCODE, READ, RING, NOISE, BLOCK } kind;
+
+typedef struct {
+    const char *name;
+    kind of;
+    int wrong;
+    uint8_t radius;
+    call *calls[PEERS];
+    uint8_t words[LINES][63];
+    double least[PEERS];
+} row;
+
+static row rows[] = {
+    {"encode", ENCODE, 0, 0, {ours_encode, fec_encode, second_encode}, {{0}}, {0}},
+    {"encode_by_character", ENCODE, 0, 0, {ours_encode_by_character, fec_encode, second_encode}, {{0}}, {0}},
+    {"read_0", READ, 0, 5, {ours_read, fec_read, second_read}, {{0}}, {0}},
+    {"read_1", READ, 1, 5, {ours_read, fec_read, second_read}, {{0}}, {0}},
+    {"read_2", READ, 2, 5, {ours_read, fec_read, second_read}, {{0}}, {0}},
+    {"read_3", READ, 3, 5, {ours_read, fec_read, second_read}, {{0}}, {0}},
+    {"read_4", READ, 4, 5, {ours_read, fec_read, second_read}, {{0}}, {0}},
+    {"read_5", READ, 5, 5, {ours_read, fec_read, second_read}, {{0}}, {0}},
+    {"read_6_refused", READ, 6, 5, {ours_read, fec_read, second_read}, {{0}}, {0}},
+    {"list_clean_radius_5", RING, 0, 5, {ours_list, fec_list, second_list}, {{0}}, {0}},
+    {"list_2_errors_radius_5", RING, 2, 5, {ours_list, fec_list, second_list}, {{0}}, {0}},
+    {"list_noise_radius_5", NOISE, 0, 5, {ours_list, fec_list, second_list}, {{0}}, {0}},
+    {"list_clean_radius_1", RING, 0, 1, {ours_list, fec_list, second_list}, {{0}}, {0}},
+    {"list_2_errors_radius_1", RING, 2, 1, {ours_list, fec_list, second_list}, {{0}}, {0}},
+    {"list_noise_radius_1", NOISE, 0, 1, {ours_list, fec_list, second_list}, {{0}}, {0}},
+    {"block_9_rows", BLOCK, 0, 0, {ours_block, plain_block, second_block}, {{0}}, {0}},
+};
+
+enum { ROWS = sizeof rows / sizeof rows[0] };
+
+/* The same numbers in every run: a counter whose bits are mixed. */
+static uint64_t counter = 1;
+
+static uint64_t below(uint64_t n) {
+    counter += 0x9e3779b97f4a7c15;
+    uint64_t x = counter;
+    x = (x ^ x >> 30) * 0xbf58476d1ce4e5b9;
+    x = (x ^ x >> 27) * 0x94d049bb133111eb;
+    return (x ^ x >> 31) % n;
+}
+
+static void characters(uint8_t *word) {
+    for (int a = 0; a < 63; a++)
+        word[a] = (uint8_t)below(64);
+}
+
+/* Changes so many characters, each at an address of its own. */
+static void damage(uint8_t *word, int wrong) {
+    int changed[63] = {0};
+    while (wrong > 0) {
+        uint64_t a = below(63);
+        if (!changed[a]) {
+            changed[a] = 1;
+            word[a] ^= (uint8_t)(1 + below(63));
+            wrong--;
+        }
+    }
+}
+
+static void make_word(const row *w, uint8_t *word) {
+    reply r;
+    uint8_t line[63];
+    characters(word);
+    switch (w->of) {
+    case ENCODE:
+    case NOISE:
+        return;
+    case BLOCK: {
+        uint8_t data[8];
+        for (int i = 0; i < 8; i++)
+            data[i] = (uint8_t)below(128);
+        film_encode_block(data, 8, word, 9);
+        /* none, one or two bits wrong */
+        for (uint64_t n = below(3); n > 0; n--)
+            word[below(9)] ^= (uint8_t)(1 << below(8));
+        return;
+    }
+    case READ:
+        do {
+            characters(line);
+            fec_encode(line, 0, &r);
+            memcpy(word, r.out, 63);
+            damage(word, w->wrong);
+            fec_read(word, 5, &r);
+        } while (r.answer != (w->wrong > 5 ? 6 : 0)); /* six wrong characters may lie near another line: not here */
+        return;
+    case RING: {
+        fec_encode(word, 0, &r);
+        memcpy(line, r.out, 63);
+        damage(line, w->wrong);
+        int start = (int)below(126);
+        for (int a = 0; a < 63; a++)
+            word[start < 63 ? (start + a) % 63 : (start - a) % 63] = line[a];
+        return;
+    }
+    }
+}
+
+static int words_of(const row *w) { return w->of == RING || w->of == NOISE ? RINGS : LINES; }
+
+static void same_answers(const row *w) {
+    for (int i = 0; i < words_of(w); i++) {
+        reply due;
+        w->calls[OURS](w->words[i], w->radius, &due);
+        for (int p = 1; p < PEERS; p++) {
+            reply r;
+            w->calls[p](w->words[i], w->radius, &r);
+            if (r.answer != due.answer || r.distance != due.distance || r.number != due.number || r.length != due.length ||
+                memcmp(r.out, due.out, due.length) != 0) {
+                printf("%s, word %d: %s and the library answer differently\n", w->name, i, peer_names[p]);
+                exit(1);
+            }
+        }
+    }
+}
+
+/* What is timed and counted: one peer over all words of a row. */
+static unsigned sink;
+
+__attribute__((noinline)) void measured(const row *w, int peer) {
+    reply r;
+    for (int i = 0, n = words_of(w); i < n; i++) {
+        w->calls[peer](w->words[i], w->radius, &r);
+        sink += r.answer + r.distance + r.out[0];
+    }
+}
+
+static double nanoseconds(const row *w, int peer) {
+    struct timespec from, to;
+    clock_gettime(CLOCK_MONOTONIC, &from);
+    measured(w, peer);
+    clock_gettime(CLOCK_MONOTONIC, &to);
+    return ((double)(to.tv_sec - from.tv_sec) * 1e9 + (double)(to.tv_nsec - from.tv_nsec)) / words_of(w);
+}
+
+static void print_times(int rounds) {
+    for (int round = 0; round < rounds; round++)
+        for (row *w = rows; w < rows + ROWS; w++)
+            for (int p = 0; p < PEERS; p++) {
+                /* the second program is slow, so it is timed in one round of SELDOM */
+                if (p == SECOND && round % SELDOM != 0)
+                    continue;
+                double t = nanoseconds(w, p);
+                if (round == 0 || t < w->least[p])
+                    w->least[p] = t;
+            }
+    printf("nanoseconds a call, minimum of %d rounds (second: of %d)\n", rounds, (rounds + SELDOM - 1) / SELDOM);
+    printf("%-24s %12s %12s %12s\n", "", peer_names[OURS], peer_names[FEC], peer_names[SECOND]);
+    for (const row *w = rows; w < rows + ROWS; w++)
+        printf("%-24s %12.1f %12.1f %12.1f\n", w->name, w->least[OURS], w->least[FEC], w->least[SECOND]);
+    for (const row *w = rows; w < rows + ROWS; w++)
+        printf("ratio %s %.3f\n", w->name, w->least[FEC] / w->least[OURS]);
+    for (const row *w = rows; w < rows + ROWS; w++)
+        printf("ratio_second %s %.3f\n", w->name, w->least[SECOND] / w->least[OURS]);
+}
+
+/* bench ROUNDS times everything; bench names prints the rows; bench once ROW PEER makes the calls of one row once, for callgrind, and prints
+ * how many calls those are. */
+int main(int argc, char **argv) {
+    fec = init_rs_char(6, 0x43, 58, 1, 11, 0);
+    if (fec == NULL)
+        return 1;
+    for (row *w = rows; w < rows + ROWS; w++)
+        for (int i = 0; i < words_of(w); i++)
+            make_word(w, w->words[i]);
+
+    if (argc == 2 && strcmp(argv[1], "names") == 0) {
+        for (const row *w = rows; w < rows + ROWS; w++)
+            printf("%s\n", w->name);
+    } else if (argc == 4 && strcmp(argv[1], "once") == 0) {
+        const row *w = rows + atoi(argv[2]);
+        measured(w, atoi(argv[3]));
+        printf("%d\n", words_of(w));
+    } else if (argc == 2 && atoi(argv[1]) > 0) {
+        for (const row *w = rows; w < rows + ROWS; w++)
+            same_answers(w);
+        printf("the same answers on all words\n");
+        print_times(atoi(argv[1]));
+    } else {
+        fprintf(stderr, "bench ROUNDS | names | once ROW PEER\n");
+        return 2;
+    }
+    return 0;
+}

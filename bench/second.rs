@@ -1,0 +1,69 @@
+//! The second program's own functions under the names that bench/bench.h gives them, as a static library.
+
+#![allow(dead_code)]
+
+#[path = "../second/block.rs"]
+mod block;
+#[path = "../second/code.rs"]
+mod code;
+#[path = "../second/encoder.rs"]
+mod encoder;
+#[path = "../second/field.rs"]
+mod field;
+#[path = "../second/line.rs"]
+mod line;
+#[path = "../second/random.rs"]
+mod random;
+#[path = "../second/ring.rs"]
+mod ring;
+
+use std::slice::from_raw_parts;
+use std::sync::OnceLock;
+
+#[repr(C)]
+pub struct Reply {
+    answer: u8,
+    distance: u8,
+    length: u8,
+    number: u16,
+    out: [u8; 126],
+}
+
+impl Reply {
+    fn set(&mut self, answer: u8, distance: usize, number: u16, out: &[u8]) {
+        (self.answer, self.distance, self.number, self.length) = (answer, distance as u8, number, 0);
+        if answer == 0 {
+            self.length = out.len() as u8;
+            self.out[..out.len()].copy_from_slice(out);
+        }
+    }
+}
+
+/// The tables that the second program makes once.
+fn code() -> &'static code::Code {
+    static CODE: OnceLock<code::Code> = OnceLock::new();
+    CODE.get_or_init(code::Code::new)
+}
+
+#[no_mangle]
+pub unsafe extern "C" fn second_encode(input: *const u8, _: u8, r: &mut Reply) {
+    r.set(0, 0, 0, &code().line(from_raw_parts(input, 52)));
+}
+
+#[no_mangle]
+pub unsafe extern "C" fn second_read(input: *const u8, radius: u8, r: &mut Reply) {
+    let (answer, number, distance, out) = line::read(code(), from_raw_parts(input, 63), radius, None, 63);
+    r.set(answer, distance, number, &out);
+}
+
+#[no_mangle]
+pub unsafe extern "C" fn second_list(input: *const u8, radius: u8, r: &mut Reply) {
+    let (numbers, out) = ring::list(code(), from_raw_parts(input, 63), radius, 126);
+    r.set(numbers[0] as u8, 0, 0, &out[..numbers[1] as usize]);
+}
+
+#[no_mangle]
+pub unsafe extern "C" fn second_block(input: *const u8, _: u8, r: &mut Reply) {
+    let (answer, distance, out) = block::read(from_raw_parts(input, 9), 9);
+    r.set(answer, distance as usize, 0, &out);
+}

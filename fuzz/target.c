@@ -95,6 +95,7 @@ static void prepare(slice *s, int rights) {
 
 /* The slice to hand on: against the wall after it or the one before it. An empty one may be NULL. */
 static uint8_t *lend(slice *s, const uint8_t *bytes, size_t length, int place) {
+    HOLDS(length <= PAGE);
     s->from = place & 1 ? 0 : PAGE - length;
     s->length = length;
     memset(s->page, UNTOUCHED, PAGE);
@@ -193,7 +194,13 @@ static uint16_t take_two(void) { uint8_t high = take(); return (uint16_t)(high *
 /* The length that is stated, three times in four. */
 static size_t take_length(size_t stated) {
     uint8_t how = take();
-    return how < 192 ? stated : how < 224 ? how - 192 : how < 240 ? stated + (how & 1 ? 1 : -1) : take_two() % LONGEST;
+    if (how < 192)
+        return stated;
+    if (how < 224)
+        return how - 192;
+    if (how < 240)
+        return how & 1 || stated == 0 ? stated + 1 : stated - 1;
+    return take_two() % LONGEST;
 }
 
 /* A word of 63 bytes and the line it was made from, if it was: any bytes, any characters, or a line with characters changed. Two in

@@ -1,0 +1,51 @@
+/* Faults that the fuzz target has to find: each stands between the target and the library. `fuzz/run faults` builds one after the other.
+ *
+ * It is built without sanitizers, as the library is. */
+#include "film.h"
+#include <string.h>
+
+film_line __real_film_read_line(const uint8_t *word, size_t word_len, uint8_t radius, uint8_t *out, size_t out_len);
+film_list __real_film_list_ring(const uint8_t *ring, size_t ring_len, uint8_t radius, uint8_t *out, size_t out_len);
+film_block __real_film_read_block(const uint8_t *rows, size_t rows_len, uint8_t *out, size_t out_len);
+
+film_line __wrap_film_read_line(const uint8_t *word, size_t word_len, uint8_t radius, uint8_t *out, size_t out_len) {
+    film_line r = __real_film_read_line(word, word_len, radius, out, out_len);
+#if FAULT == 1 /* a refusal that writes */
+    if (r.answer == FILM_NO_LINE)
+        out[62] = 0;
+#elif FAULT == 2 /* a line at distance 5 that is not found */
+    if (r.answer == FILM_DONE && r.distance == 5) {
+        memset(out, 170, 63);
+        r = (film_line){FILM_NO_LINE, 0, 0};
+    }
+#elif FAULT == 3 /* a word that is no line */
+    if (r.answer == FILM_DONE && r.distance == 4)
+        out[60] ^= 1;
+#endif
+    return r;
+}
+
+film_list __wrap_film_list_ring(const uint8_t *ring, size_t ring_len, uint8_t radius, uint8_t *out, size_t out_len) {
+    film_list r = __real_film_list_ring(ring, ring_len, radius, out, out_len);
+#if FAULT == 4 /* the first start that fits, and not the second */
+    if (r.answer == FILM_DONE && r.count == 2) {
+        out[1] = 170;
+        r.count = 1;
+    }
+#endif
+    return r;
+}
+
+film_block __wrap_film_read_block(const uint8_t *rows, size_t rows_len, uint8_t *out, size_t out_len) {
+#if FAULT == 5 /* one byte too many is read */
+    if (rows_len != 0)
+        (void)((const volatile uint8_t *)rows)[rows_len];
+#elif FAULT == 6 /* the input is written, with what it holds */
+    if (rows_len != 0)
+        ((volatile uint8_t *)rows)[0] = rows[0];
+#elif FAULT == 7 /* one byte too many is written, with what stands there in the target's page */
+    if (out_len != 0)
+        ((volatile uint8_t *)out)[out_len] = 170;
+#endif
+    return __real_film_read_block(rows, rows_len, out, out_len);
+}

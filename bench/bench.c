@@ -2,7 +2,7 @@
  *
  * bench/run builds and runs it. A time is that of the whole call, from the caller's characters to the caller's line, number and
  * distance. libfec knows neither marks nor numbers nor rings, so a small adapter takes the marks off and puts them on again, and
- * turns a ring 126 times. It tests no lengths and no characters, as the library does. Before anything is timed, all peers must
+ * turns a ring 126 times. Unlike the library it tests no lengths and no characters. Before anything is timed, all peers must
  * give the same answers on all words. */
 #include "bench.h"
 #include "film.h"
@@ -250,7 +250,7 @@ __attribute__((noinline)) void measured(const row *w, int peer) {
     reply r;
     for (int i = 0, n = words_of(w); i < n; i++) {
         w->calls[peer](w->words[i], w->radius, &r);
-        sink += r.answer + r.distance + r.out[0];
+        sink += (unsigned)(r.answer + r.distance + r.out[0]);
     }
 }
 

@@ -5,6 +5,7 @@ pub mod Sums
 pub mod Horner
 pub mod Lines
 pub mod Turns
+pub mod Holding
 pub mod Apart
 pub mod Address
 pub mod Orders

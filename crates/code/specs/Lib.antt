@@ -2,3 +2,4 @@
 pub mod Word
 pub mod Promises
 pub mod Inside
+pub mod Held

@@ -1,15 +1,22 @@
 // Words of 63 characters: their power sums, and the test for a line.
 ghost use mathlib.Core.Path.{_≡_};
 ghost use lib.ListN.{getD};
-ghost use Rattle.code.specs.Word.{Characters, marks};
+ghost use Rattle.code.specs.Word.{Characters, marks, added};
 ghost use Rattle.refusal.specs.Promise.{Tells};
 ghost use Rattle.code.specs.Promises.{TellsLine};
 ghost use Rattle.code.specs.Inside.{PowerSums, wordAt};
+ghost use Rattle.code.specs.Held.{eleven, lowered};
 
 const ALPHA: u8 = 2;
 
 // The power -5 of α, which is its power 58.
 const LOWEST_POWER: u8 = 63;
+
+// The eleven power sums, S_-5 first: ten in the lanes of one number, the last beside it.
+pub struct Eleven {
+    pub first: u64,
+    pub last: u8,
+}
 
 // Whether characters, of any length, are a line.
 pub fn is_line(word: &[u8]) -> bool
@@ -95,4 +102,53 @@ fn same(u: [u8; 11], v: [u8; 11]) -> bool
         k += 1;
     }
     true
+}
+
+// The eleven power sums of the first 63 characters, packed; what the word lacks of them counts as 0, and of each the low six bits count.
+pub fn eleven_sums(word: &[u8]) -> Eleven
+    ensures { λ r. ⌜ PowerSums (now (word .entry)) (eleven r) ⌝ }
+{
+    packed(power_sums(word))
+}
+
+// Eleven sums packed: of each the low six bits count.
+pub fn packed(sums: [u8; 11]) -> Eleven
+    ensures { λ r. ⌜ eleven r ≡ lowered sums ⌝ }
+{
+    let mut p: u64 = 0;
+    let mut k: usize = 10;
+    while k > 0 {
+        k -= 1;
+        p = p * 64 + (sums[k] % 64) as u64;
+    }
+    Eleven {
+        first: p,
+        last: sums[10] % 64,
+    }
+}
+
+// Eleven sums unpacked.
+pub fn unpacked(sums: Eleven) -> [u8; 11]
+    ensures { λ r. ⌜ r ≡ eleven sums ⌝ }
+{
+    let mut s = [0u8; 11];
+    let mut p = sums.first;
+    let mut k: usize = 0;
+    while k < 10 {
+        s[k] = (p % 64) as u8;
+        p = p / 64;
+        k += 1;
+    }
+    s[10] = sums.last % 64;
+    s
+}
+
+// Two times eleven sums added.
+pub fn eleven_added(u: Eleven, v: Eleven) -> Eleven
+    ensures { λ r. ⌜ eleven r ≡ added (eleven u) (eleven v) ⌝ }
+{
+    Eleven {
+        first: u.first ^ v.first,
+        last: u.last ^ v.last,
+    }
 }

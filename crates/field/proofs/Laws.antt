@@ -327,7 +327,7 @@ pub inverse-lt : (a : ℕ) → inverse a < 64
 unfolding inverse
 inverse-lt a = power-lt a 62
 
-inverse-low : (a : ℕ) → inverse a ≡ inverse (a % 64)
+pub inverse-low : (a : ℕ) → inverse a ≡ inverse (a % 64)
 unfolding inverse
 inverse-low a = sym (power-low a 62)
 

@@ -1,13 +1,16 @@
 -- What the field's code does, a turn and a way out at a time, over plain variables.
-use mathlib.Core.Path.{_≡_, refl, sym, ap, ap₂, _∙_}
+use mathlib.Core.Path.{_≡_, refl, sym, ap, _∙_}
 use mathlib.Core.Logic.{inl, inr}
 use mathlib.Core.Bool.{Bool, true, false}
 use mathlib.Core.List.{[], _∷_}
-use Prim.Native.Nat.{ℕ, zero, suc, _+_, _-_, _*_, _/_, _%_, _<_, _≤_}
+use Prim.Native.Nat.{ℕ, suc, _+_, _-_, _*_, _/_, _%_, _<_, _≤_}
 use native.Mathlib.Nat.{mod-eq-of-lt}
 use native.Mathlib.Omega.{arith}
 use lib.Bits.{bitXor}
-use Rattle.numbers.proofs.Cases.{bit-cases}
+use lib.Dec.{T, eqb, eqb→eq, ltb, ltb→lt}
+use Rattle.numbers.proofs.Cases.{pos-of-not-zero, bit-cases}
+use Rattle.numbers.proofs.Range.{both, both-left, both-right}
+use Rattle.numbers.proofs.Arms.{NoneBelow, last-of-64}
 use Rattle.numbers.proofs.Xor.{xor-assoc}
 use Rattle.refusal.specs.Promise.{Tells}
 use Rattle.refusal.proofs.Laws.{tells-yes, tells-no}
@@ -53,30 +56,31 @@ added-all u v a b s i h t =
     let e : 6 - i ≡ 0 = omega arith in
     sym (Laws.sum-zero s) ∙ sym (ap (λ (n : ℕ). sum s (shifted n a b)) e) ∙ t .rest
 
--- ---- the inverse, by its chain
+-- ---- the inverse, by its table
 
-pub square-times : (u p q r : ℕ) → q ≡ product p p → r ≡ product u q → r ≡ product u (product p p)
-square-times u p q r e f = f ∙ ap (product u) e
-
-doubled-and-one : (u n p r : ℕ) → p ≡ power u n → r ≡ product u (product p p) → r ≡ power u (suc (n + n))
-unfolding power
-doubled-and-one u n p r e f = f ∙ ap (product u) (ap₂ product e e ∙ sym (Laws.power-add u n n))
-
-cubed : (u : ℕ) → product u (product u u) ≡ power u 3
-unfolding power
-cubed u = ap (product u) (sym (Laws.product-low-right u u) ∙ ap (product u) (sym (Laws.product-comm u 1 ∙ Laws.one-product-low u)))
-
-pub inverse-chain : (u p3 p7 p15 p31 r : ℕ) → p3 ≡ product u (product u u) → p7 ≡ product u (product p3 p3) → p15 ≡ product u (product p7 p7)
-    → p31 ≡ product u (product p15 p15) → r ≡ product p31 p31 → r ≡ inverse u
-unfolding inverse
-inverse-chain u p3 p7 p15 p31 r e3 e7 e15 e31 e =
-    e ∙ ap₂ product is31 is31 ∙ sym (Laws.power-add u 31 31)
+-- an entry at k that is computed: v is an element, and k times v is 1
+pub inverse-entry : (u k v : ℕ) → u % 64 ≡ k → T (both (eqb (product k v) 1) (ltb v 64)) → v ≡ inverse u
+inverse-entry u k v q t =
+    Laws.product-cancel-left k v (inverse k) (pos-of-not-zero k some) small (ltb→lt v 64 (both-right (eqb (product k v) 1) (ltb v 64) t)) (Laws.inverse-lt k)
+    (one ∙ sym (Laws.inverse-right k (pos-of-not-zero k some) small))
+    ∙ ap inverse (sym q) ∙ sym (Laws.inverse-low u)
   where
-    is3 : p3 ≡ power u 3
-    is3 = e3 ∙ cubed u
+    one : product k v ≡ 1
+    one = eqb→eq (product k v) 1 (both-left (eqb (product k v) 1) (ltb v 64) t)
 
-    is31 : p31 ≡ power u 31
-    is31 = doubled-and-one u 15 p15 p31 (doubled-and-one u 7 p7 p15 (doubled-and-one u 3 p3 p7 is3 e7) e15) e31
+    small : k < 64
+    small = omega arith
+
+    some : k ≡ 0 → ⊥
+    some z = let e : product k v ≡ 0 = ap (λ (x : ℕ). product x v) z ∙ Laws.zero-product v in omega (arith, one)
+
+pub inverse-last : (u v : ℕ) → NoneBelow 63 (u % 64) → T (both (eqb (product 63 v) 1) (ltb v 64)) → v ≡ inverse u
+inverse-last u v h = inverse-entry u 63 v (last-of-64 u h)
+
+-- the 62nd power of 0
+pub inverse-zero : (u : ℕ) → u % 64 ≡ 0 → 0 ≡ inverse u
+unfolding inverse power
+inverse-zero u e = sym (Laws.inverse-low u ∙ ap inverse e ∙ Laws.zero-product (power 0 61))
 
 pub divided-over : (u v i w : ℕ) → i ≡ inverse v → w ≡ product u i → Divided u v w
 divided-over u v i w e f = rw (f, e) (Laws.divided-by u v)

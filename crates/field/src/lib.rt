@@ -88,22 +88,76 @@ pub fn times(u: u8, v: u8) -> u8
     s
 }
 
-// u times the square of p.
-fn times_square(u: u8, p: u8) -> u8
-    ensures { λ r. ⌜ r ≡ product u (product p p) ⌝ }
-{
-    times(u, times(p, p))
-}
-
-// The inverse of what is not 0 is its 62nd power: from 1 the exponent is doubled and 1 added, four times, and then doubled.
-fn inverse(u: u8) -> u8
+// The inverse of what is not 0, and 0 of 0, by a table: of any byte the low six bits count.
+pub fn inverse(u: u8) -> u8
     ensures { λ r. ⌜ r ≡ inverse u ⌝ }
 {
-    let p3 = times_square(u, u);
-    let p7 = times_square(u, p3);
-    let p15 = times_square(u, p7);
-    let p31 = times_square(u, p15);
-    times(p31, p31)
+    match u % 64 {
+        0 => 0,
+        1 => 1,
+        2 => 33,
+        3 => 62,
+        4 => 49,
+        5 => 43,
+        6 => 31,
+        7 => 44,
+        8 => 57,
+        9 => 37,
+        10 => 52,
+        11 => 28,
+        12 => 46,
+        13 => 40,
+        14 => 22,
+        15 => 25,
+        16 => 61,
+        17 => 54,
+        18 => 51,
+        19 => 39,
+        20 => 26,
+        21 => 35,
+        22 => 14,
+        23 => 24,
+        24 => 23,
+        25 => 15,
+        26 => 20,
+        27 => 34,
+        28 => 11,
+        29 => 53,
+        30 => 45,
+        31 => 6,
+        32 => 63,
+        33 => 2,
+        34 => 27,
+        35 => 21,
+        36 => 56,
+        37 => 9,
+        38 => 50,
+        39 => 19,
+        40 => 13,
+        41 => 47,
+        42 => 48,
+        43 => 5,
+        44 => 7,
+        45 => 30,
+        46 => 12,
+        47 => 41,
+        48 => 42,
+        49 => 4,
+        50 => 38,
+        51 => 18,
+        52 => 10,
+        53 => 29,
+        54 => 17,
+        55 => 60,
+        56 => 36,
+        57 => 8,
+        58 => 59,
+        59 => 58,
+        60 => 55,
+        61 => 16,
+        62 => 3,
+        _ => 32,
+    }
 }
 
 // Any byte divided by any other.

@@ -1,4 +1,5 @@
--- The laws of numbers: cases, tests over a range, exclusive or.
+-- The laws of numbers: cases, tests over a range, the arms of a match, exclusive or.
 pub mod Cases
 pub mod Range
+pub mod Arms
 pub mod Xor

@@ -1,19 +1,75 @@
--- `field::inverse` meets its contract: the chain of exponents 1, 3, 7, 15, 31, 62.
-use borrow.Author.Needs.{needs}
-use Rattle.field.proofs.Turns.{inverse-chain}
+-- `field::inverse` meets its contract: each entry but that of 0 is computed to have the product 1 with its number.
+use Rattle.field.specs.Field.{sum, timesX, shifted, product}
+use Rattle.field.proofs.Turns.{inverse-entry, inverse-last, inverse-zero}
 use Rattle.field.proofs.inverse.Statement.{statement}
 use Rattle.field.proofs.inverse.Tie as tie
 
-returns : tie.Need-returns
-returns c = search (inverse-chain, needs)
-
 pub inverse-spec : {M : Type 1} → statement M
+unfolding product shifted timesX sum
 inverse-spec =
     tie.close
     (tie.spec
-    (λ c κs. search needs)
-    (λ c κs. search needs)
-    (λ c κs. search needs)
-    (λ c κs. search needs)
-    (λ c κs. search needs)
-    returns)
+    (λ c. inverse-zero (c .before .args .u) (c .match .keys1))
+    (λ c. inverse-entry (c .before .args .u) 1 _ (c .match .keys2) tt)
+    (λ c. inverse-entry (c .before .args .u) 2 _ (c .match .keys3) tt)
+    (λ c. inverse-entry (c .before .args .u) 3 _ (c .match .keys4) tt)
+    (λ c. inverse-entry (c .before .args .u) 4 _ (c .match .keys5) tt)
+    (λ c. inverse-entry (c .before .args .u) 5 _ (c .match .keys6) tt)
+    (λ c. inverse-entry (c .before .args .u) 6 _ (c .match .keys7) tt)
+    (λ c. inverse-entry (c .before .args .u) 7 _ (c .match .keys8) tt)
+    (λ c. inverse-entry (c .before .args .u) 8 _ (c .match .keys9) tt)
+    (λ c. inverse-entry (c .before .args .u) 9 _ (c .match .keys10) tt)
+    (λ c. inverse-entry (c .before .args .u) 10 _ (c .match .keys11) tt)
+    (λ c. inverse-entry (c .before .args .u) 11 _ (c .match .keys12) tt)
+    (λ c. inverse-entry (c .before .args .u) 12 _ (c .match .keys13) tt)
+    (λ c. inverse-entry (c .before .args .u) 13 _ (c .match .keys14) tt)
+    (λ c. inverse-entry (c .before .args .u) 14 _ (c .match .keys15) tt)
+    (λ c. inverse-entry (c .before .args .u) 15 _ (c .match .keys16) tt)
+    (λ c. inverse-entry (c .before .args .u) 16 _ (c .match .keys17) tt)
+    (λ c. inverse-entry (c .before .args .u) 17 _ (c .match .keys18) tt)
+    (λ c. inverse-entry (c .before .args .u) 18 _ (c .match .keys19) tt)
+    (λ c. inverse-entry (c .before .args .u) 19 _ (c .match .keys20) tt)
+    (λ c. inverse-entry (c .before .args .u) 20 _ (c .match .keys21) tt)
+    (λ c. inverse-entry (c .before .args .u) 21 _ (c .match .keys22) tt)
+    (λ c. inverse-entry (c .before .args .u) 22 _ (c .match .keys23) tt)
+    (λ c. inverse-entry (c .before .args .u) 23 _ (c .match .keys24) tt)
+    (λ c. inverse-entry (c .before .args .u) 24 _ (c .match .keys25) tt)
+    (λ c. inverse-entry (c .before .args .u) 25 _ (c .match .keys26) tt)
+    (λ c. inverse-entry (c .before .args .u) 26 _ (c .match .keys27) tt)
+    (λ c. inverse-entry (c .before .args .u) 27 _ (c .match .keys28) tt)
+    (λ c. inverse-entry (c .before .args .u) 28 _ (c .match .keys29) tt)
+    (λ c. inverse-entry (c .before .args .u) 29 _ (c .match .keys30) tt)
+    (λ c. inverse-entry (c .before .args .u) 30 _ (c .match .keys31) tt)
+    (λ c. inverse-entry (c .before .args .u) 31 _ (c .match .keys32) tt)
+    (λ c. inverse-entry (c .before .args .u) 32 _ (c .match .keys33) tt)
+    (λ c. inverse-entry (c .before .args .u) 33 _ (c .match .keys34) tt)
+    (λ c. inverse-entry (c .before .args .u) 34 _ (c .match .keys35) tt)
+    (λ c. inverse-entry (c .before .args .u) 35 _ (c .match .keys36) tt)
+    (λ c. inverse-entry (c .before .args .u) 36 _ (c .match .keys37) tt)
+    (λ c. inverse-entry (c .before .args .u) 37 _ (c .match .keys38) tt)
+    (λ c. inverse-entry (c .before .args .u) 38 _ (c .match .keys39) tt)
+    (λ c. inverse-entry (c .before .args .u) 39 _ (c .match .keys40) tt)
+    (λ c. inverse-entry (c .before .args .u) 40 _ (c .match .keys41) tt)
+    (λ c. inverse-entry (c .before .args .u) 41 _ (c .match .keys42) tt)
+    (λ c. inverse-entry (c .before .args .u) 42 _ (c .match .keys43) tt)
+    (λ c. inverse-entry (c .before .args .u) 43 _ (c .match .keys44) tt)
+    (λ c. inverse-entry (c .before .args .u) 44 _ (c .match .keys45) tt)
+    (λ c. inverse-entry (c .before .args .u) 45 _ (c .match .keys46) tt)
+    (λ c. inverse-entry (c .before .args .u) 46 _ (c .match .keys47) tt)
+    (λ c. inverse-entry (c .before .args .u) 47 _ (c .match .keys48) tt)
+    (λ c. inverse-entry (c .before .args .u) 48 _ (c .match .keys49) tt)
+    (λ c. inverse-entry (c .before .args .u) 49 _ (c .match .keys50) tt)
+    (λ c. inverse-entry (c .before .args .u) 50 _ (c .match .keys51) tt)
+    (λ c. inverse-entry (c .before .args .u) 51 _ (c .match .keys52) tt)
+    (λ c. inverse-entry (c .before .args .u) 52 _ (c .match .keys53) tt)
+    (λ c. inverse-entry (c .before .args .u) 53 _ (c .match .keys54) tt)
+    (λ c. inverse-entry (c .before .args .u) 54 _ (c .match .keys55) tt)
+    (λ c. inverse-entry (c .before .args .u) 55 _ (c .match .keys56) tt)
+    (λ c. inverse-entry (c .before .args .u) 56 _ (c .match .keys57) tt)
+    (λ c. inverse-entry (c .before .args .u) 57 _ (c .match .keys58) tt)
+    (λ c. inverse-entry (c .before .args .u) 58 _ (c .match .keys59) tt)
+    (λ c. inverse-entry (c .before .args .u) 59 _ (c .match .keys60) tt)
+    (λ c. inverse-entry (c .before .args .u) 60 _ (c .match .keys61) tt)
+    (λ c. inverse-entry (c .before .args .u) 61 _ (c .match .keys62) tt)
+    (λ c. inverse-entry (c .before .args .u) 62 _ (c .match .keys63) tt)
+    (λ c. inverse-last (c .before .args .u) _ (c .match .rest) tt))

@@ -1,0 +1,2 @@
+-- An entry of each table.
+pub mod Entries

@@ -14,13 +14,13 @@ use lib.Seq.{getD-set-same, getD-set-other, ext-getD}
 use Rattle.field.specs.Field.{sum}
 use Rattle.field.proofs.Laws
 use Rattle.lanes.specs.Lanes.{pack, lane}
-use Rattle.lanes.proofs.Laws.{lane-lt, lane-zero, lane-suc, pack-same, pack-lt, lane-pack}
+use Rattle.lanes.proofs.Laws.{lane-lt, lane-zero, lane-suc, pack-same, pack-lt, lane-pack, lane-xor}
 use Rattle.code.specs.declared.Eleven.{Eleven}
-use Rattle.code.specs.Word.{added}
+use Rattle.code.specs.Word.{Characters, added}
 use Rattle.code.specs.Held.{elevenAt, eleven, lowered}
 use Rattle.code.specs.Inside.{PowerSums}
 use Rattle.code.proofs.Sums.{powerSum-lt}
-use Rattle.code.proofs.Words.{listed-long, listed-get, length-added, added-get}
+use Rattle.code.proofs.Words.{characters-below, listed-long, listed-get, length-added, added-get}
 
 -- ---- what is held
 
@@ -59,21 +59,15 @@ eleven-is h s l f e =
     ⊎-elim (λ (q : k ≡ 10). ap (λ (i : ℕ). getD (eleven h) i 0) q ∙ eleven-last h ∙ e ∙ ap (λ (i : ℕ). getD s i 0) (sym q))
     (λ (m : k < 10). eleven-first h k m ∙ f k m) (eq-or-lt-of-le (le-of-suc-le-suc c)))
 
-pub eleven-characters : (h : Eleven) (k : ℕ) → k < 11 → getD (eleven h) k 0 < 64
-eleven-characters h k l =
+below-eleven : (h : Eleven) (k : ℕ) → k < 11 → getD (eleven h) k 0 < 64
+below-eleven h k l =
     ⊎-elim (λ (q : k ≡ 10). subst (λ (i : ℕ). getD (eleven h) i 0 < 64) (sym q) (subst (λ (n : ℕ). n < 64) (sym (eleven-last h)) (omega arith)))
     (λ (m : k < 10). subst (λ (n : ℕ). n < 64) (sym (eleven-first h k m)) (lane-lt (h .first) k)) (eq-or-lt-of-le (le-of-suc-le-suc l))
 
+pub eleven-characters : (h : Eleven) → Characters (eleven h)
+eleven-characters h = characters-below (eleven h) 11 (le-of-eq (eleven-long h)) (below-eleven h)
+
 -- ---- added
-
-xor-low : (p q : ℕ) → bitXor p q % 64 ≡ sum (p % 64) (q % 64)
-unfolding sum
-xor-low p q = xor-mod p q 6
-
-pub lane-xor : (p q k : ℕ) → lane (bitXor p q) k ≡ sum (lane p k) (lane q k)
-lane-xor p q zero = lane-zero (bitXor p q) ∙ xor-low p q ∙ sym (ap₂ sum (lane-zero p) (lane-zero q))
-lane-xor p q (suc k) =
-    lane-suc (bitXor p q) k ∙ ap (λ (n : ℕ). lane n k) (xor-shr p q 6) ∙ lane-xor (p / 64) (q / 64) k ∙ sym (ap₂ sum (lane-suc p k) (lane-suc q k))
 
 pub eleven-added : (g h r : Eleven) → r .first ≡ bitXor (g .first) (h .first) → r .last ≡ bitXor (g .last) (h .last) → eleven r ≡ added (eleven g) (eleven h)
 unfolding sum

@@ -1,10 +1,10 @@
 -- The laws of lanes: what packing keeps, and what exclusive or, masks and shifts do to every lane.
 use mathlib.Core.Path.{_≡_, refl, sym, ap, ap₂, _∙_}
 use Prim.Native.Nat.{ℕ, zero, suc, _+_, _*_, _/_, _%_, _^_, _<_, _-_}
-use native.Mathlib.Nat.{div-div-eq-div-mul, mul-right-comm, add-mul, div-one, pow-succ', pow-suc, div-add-mod', mod-eq-of-lt, mod-lt, zero-lt-suc, zero-add, zero-mul}
+use native.Mathlib.Nat.{div-div-eq-div-mul, mul-right-comm, add-mul, div-one, pow-succ', pow-suc, div-add-mod', mod-eq-of-lt, mod-lt, zero-lt-suc, zero-add, zero-mul, mul-one, mul-assoc, add-right-comm}
 use native.Mathlib.Omega.{arith}
 use lib.Arith.{digits-div, digits-mod, mod-mul}
-use lib.Bits.{bitXor, bitAnd, xor-block, and-block, and-zero-r}
+use lib.Bits.{bitXor, bitAnd, xor-block, and-block, and-zero-r, xor-mod, xor-shr}
 use Rattle.field.specs.Field.{sum}
 use Rattle.lanes.specs.Lanes.{pack, lane}
 
@@ -60,6 +60,16 @@ unfolding pack
 pack-more zero f e = zero-add (f 0) ∙ e
 pack-more (suc n) f e = ap (λ (p : ℕ). p * 64 + f 0) (pack-more n (λ k. f (suc k)) e)
 
+-- the last lane apart
+pub pack-last : (n : ℕ) (f : ℕ → ℕ) → pack (suc n) f ≡ pack n f + f n * 64 ^ n
+unfolding pack
+pack-last zero f = ap (λ (a : ℕ). 0 + a) (sym (mul-one (f 0)))
+pack-last (suc n) f =
+    ap (λ (a : ℕ). a * 64 + f 0) (pack-last n (λ k. f (suc k)))
+    ∙ ap (λ (a : ℕ). a + f 0) (add-mul (pack n (λ k. f (suc k))) (f (suc n) * 64 ^ n) 64)
+    ∙ add-right-comm (pack n (λ k. f (suc k)) * 64) (f (suc n) * 64 ^ n * 64) (f 0)
+    ∙ ap (λ (a : ℕ). pack n (λ k. f (suc k)) * 64 + f 0 + a) (mul-assoc (f (suc n)) (64 ^ n) 64 ∙ ap (λ (a : ℕ). f (suc n) * a) (sym (pow-suc 64 n)))
+
 -- numbers of n lanes that agree in each are the same
 pub pack-equal : (n : ℕ) (f g : ℕ → ℕ) → ((k : ℕ) → f k < 64) → ((k : ℕ) → g k < 64) → pack n f ≡ pack n g → (k : ℕ) → k < n → f k ≡ g k
 pack-equal n f g hf hg e k l = sym (lane-pack n f hf k l) ∙ ap (λ (p : ℕ). lane p k) e ∙ lane-pack n g hg k l
@@ -87,6 +97,16 @@ xor-pack zero f g hf hg = refl
 xor-pack (suc n) f g hf hg =
     xor-block 6 (pack n (λ k. f (suc k))) (pack n (λ k. g (suc k))) (f 0) (g 0) (hf 0) (hg 0)
     ∙ ap (λ (p : ℕ). p * 64 + bitXor (f 0) (g 0)) (xor-pack n (λ k. f (suc k)) (λ k. g (suc k)) (λ k. hf (suc k)) (λ k. hg (suc k)))
+
+xor-low : (p q : ℕ) → bitXor p q % 64 ≡ sum (p % 64) (q % 64)
+unfolding sum
+xor-low p q = xor-mod p q 6
+
+-- of any two numbers
+pub lane-xor : (p q k : ℕ) → lane (bitXor p q) k ≡ sum (lane p k) (lane q k)
+lane-xor p q zero = lane-zero (bitXor p q) ∙ xor-low p q ∙ sym (ap₂ sum (lane-zero p) (lane-zero q))
+lane-xor p q (suc k) =
+    lane-suc (bitXor p q) k ∙ ap (λ (n : ℕ). lane n k) (xor-shr p q 6) ∙ lane-xor (p / 64) (q / 64) k ∙ sym (ap₂ sum (lane-suc p k) (lane-suc q k))
 
 -- a mask over any number
 pub and-lanes : (n p : ℕ) (g : ℕ → ℕ) → ((k : ℕ) → g k < 64) → bitAnd p (pack n g) ≡ pack n (λ k. bitAnd (lane p k) (g k))

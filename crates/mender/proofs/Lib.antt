@@ -3,4 +3,5 @@ pub mod Windows
 pub mod Fitting
 pub mod Turns
 pub mod Finding
+pub mod OneError
 pub mod Theorems

@@ -9,13 +9,31 @@ ghost use Rattle.polynomial.specs.Sums.{weight};
 ghost use Rattle.polynomial.specs.Polynomial.{over};
 ghost use Rattle.code.specs.Word.{added};
 ghost use Rattle.mender.specs.Mender.{MendsTo, Mends, NearestWith, NearestClean};
+ghost use mathlib.Core.Bool.{true, false};
+ghost use Rattle.code.specs.Held.{eleven};
+ghost use Rattle.mender.specs.Found.{OneError, Patterned, ElementsTo};
 ghost use Rattle.mender.specs.Inside.{mixed, coef, Units, Spanned, Pivot, RowAdded, Stepped, First, Small, valueOf, ValuedFrom, Agree, Nothing};
+
+use code::Eleven;
 
 // A word that was found, and how many of its characters are not 0, or how far it lies.
 pub struct Mended {
     pub found: bool,
     pub weight: u8,
     pub word: [u8; 63],
+}
+
+// One error: its address, and what is to be added there.
+struct Single {
+    found: bool,
+    address: usize,
+    value: u8,
+}
+
+// A pattern of errors, and how many of its characters are not 0.
+struct Pattern {
+    word: [u8; 63],
+    weight: u8,
 }
 
 // The errors whose first c power sums these are, S_-5 first, e of them at most: c counts up to 11, and e up to half of c.
@@ -322,4 +340,35 @@ fn word_added(word: &[u8], pattern: [u8; 63]) -> [u8; 63]
         a += 1;
     }
     r
+}
+
+// The one error whose sums these are, if it is one: then each sum is the one before it times the place, and S_0 is the value.
+fn lone_error(s: Eleven) -> Single
+    ensures { λ r. ⌜ OneError (eleven s) r ⌝ }
+{
+    let value = (s.first / 1073741824 % 64) as u8;
+    if value == 0 {
+        return no_single();
+    }
+    let place = field::over((s.first / 68719476736 % 64) as u8, value);
+    let after = s.first / 64 % 18014398509481984 + (s.last % 64) as u64 * 18014398509481984;
+    let turned = lanes::scale(s.first, place);
+    if turned != after {
+        return no_single();
+    }
+    Single {
+        found: true,
+        address: 62 - places::log_of(place) as usize,
+        value: value,
+    }
+}
+
+fn no_single() -> Single
+    ensures { λ r. ⌜ r .found ≡ false ⌝ }
+{
+    Single {
+        found: false,
+        address: 0,
+        value: 0,
+    }
 }

@@ -21,7 +21,7 @@ loop-again : tie.Need-loop-again Inv-loop μ-loop
 loop-again c = search (unpacked-again, needs)
 
 array-write-s-2 : tie.Need-array-write-s-2 Inv-loop μ-loop
-array-write-s-2 c = search (unpacked-long, needs)
+array-write-s-2 c = search needs
 
 returns : tie.Need-returns Inv-loop μ-loop
 returns c = search (unpacked-all, needs)

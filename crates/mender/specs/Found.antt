@@ -1,0 +1,30 @@
+-- What the mender's quick ways promise: one error told from the sums, and the values at the roots alone.
+use mathlib.Core.Path.{_≡_}
+use mathlib.Core.Bool.{true}
+use mathlib.Core.List.{List}
+use Prim.Native.Nat.{ℕ, _<_}
+use lib.ListN.{getD, replicate, set}
+use Rattle.polynomial.specs.Sums.{weight}
+use Rattle.mender.specs.declared.Single.{Single}
+use Rattle.mender.specs.declared.Pattern.{Pattern}
+use Rattle.mender.specs.Mender.{Fits}
+use Rattle.mender.specs.Inside.{ValuedFrom}
+
+-- 63 zeros with one character set
+unfoldable pub lone : ℕ → ℕ → List ℕ
+lone a v = set (replicate 63 0) a v
+
+-- where it is found, one error has all eleven sums; where it is not, nothing is said
+pub record OneError (s : List ℕ) (o : Single) : Type 0 where
+  pub inside : o .found ≡ true → o .address < 63
+  pub some : o .found ≡ true → 0 < o .value
+  pub fits : o .found ≡ true → Fits s 11 1 (lone (o .address) (o .value))
+
+-- the characters are the values at their places, and counted
+pub record Patterned (p s : List ℕ) (r : Pattern) : Type 0 where
+  pub valued : ValuedFrom p s (r .word) 63
+  pub weighs : r .weight ≡ weight (r .word)
+
+-- the first c of eleven sums are elements
+abbrev pub ElementsTo : List ℕ → ℕ → Type 0
+ElementsTo s c = (k : ℕ) → k < c → getD s k 0 < 64

@@ -302,7 +302,7 @@ taken-again p v m b w k j n t h e pm ev ad =
           ∙ ap (λ (cs : List ℕ). polyAt cs (power α l) % 64) (sym (drop-cons p j 0 i));
     }
 
-pub taken-all : (p : List ℕ) (v : Planes) (k r : ℕ) → TakenFrom p v k → (0 < k → ⊥) → ZerosOf v r → RootsOf p r
+pub taken-all : (p : List ℕ) (v : Planes) (k r : ℕ) → TakenFrom p v k → k ≤ 0 → ZerosOf v r → RootsOf p r
 taken-all p v k r t n z =
     let e : k ≡ 0 = omega arith in
     let at : (l : ℕ) → l < 63 → elementAt v l ≡ polyAt p (power α l) % 64 =

@@ -1,3 +1,4 @@
--- The laws of bits and elements in planes, and what each function does with them.
+-- The laws of bits and elements in planes, what each function does with them, and what callers read.
 pub mod Bits
 pub mod Turns
+pub mod Theorems

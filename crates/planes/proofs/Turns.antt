@@ -1,0 +1,314 @@
+-- What each function does with elements in planes, over plain variables.
+use mathlib.Core.Path.{_≡_, refl, sym, ap, ap₂, _∙_}
+use mathlib.Core.Bool.{Bool}
+use mathlib.Core.List.{List, [], _∷_}
+use Prim.Native.Nat.{ℕ, zero, suc, _+_, _-_, _*_, _/_, _%_, _^_, _<_, _≤_}
+use native.Mathlib.Nat.{mod-eq-of-lt, zero-mul, one-mul}
+use native.Mathlib.Omega.{arith}
+use lib.Bits.{bitAnd, bitOr, bitXor, xor-lt}
+use lib.Dec.{T, eqb, eqb→eq}
+use lib.ListN.{length, drop, getD}
+use lib.Seq.{drop-cons}
+use Rattle.numbers.proofs.Cases.{bit-cases, bit-lt}
+use Rattle.numbers.proofs.Range.{each, each-at}
+use Rattle.field.specs.Field.{sum, timesX, shifted, product, α, power}
+use Rattle.field.proofs.Laws
+use Rattle.polynomial.specs.Polynomial.{polyAt}
+use Rattle.planes.specs.declared.Planes.{Planes}
+use Rattle.planes.specs.Roots.{RootsOf}
+use Rattle.planes.specs.Slices.{bitAt, ofBits, elementAt, Spread, Everywhere, Doubled, Added, OnlyAt, NextBit, PlaceMultiplied, ZerosOf}
+use Rattle.planes.proofs.Bits.{xor-bit, and-bit, or-between, Between, low-bit, of-same, of-xor, of-lt, of-scaled, of-timesX}
+
+pub element-lt : (v : Planes) (l : ℕ) → elementAt v l < 64
+unfolding elementAt
+element-lt v l = of-lt (v .b0 / 2 ^ l) (v .b1 / 2 ^ l) (v .b2 / 2 ^ l) (v .b3 / 2 ^ l) (v .b4 / 2 ^ l) (v .b5 / 2 ^ l)
+
+-- ---- one bit, and one element, at each place
+
+-- computed at the 63 places
+ones-test : T (each 63 (λ l. eqb (bitAt 9223372036854775807 l) 1))
+ones-test = tt
+
+pub ones-bit : (l : ℕ) → l < 63 → bitAt 9223372036854775807 l ≡ 1
+ones-bit l h = eqb→eq (bitAt 9223372036854775807 l) 1 (each-at 63 (λ k. eqb (bitAt 9223372036854775807 k) 1) ones-test l h)
+
+zeros-test : T (each 63 (λ l. eqb (bitAt 0 l) 0))
+zeros-test = tt
+
+zeros-bit : (l : ℕ) → l < 63 → bitAt 0 l ≡ 0
+zeros-bit l h = eqb→eq (bitAt 0 l) 0 (each-at 63 (λ k. eqb (bitAt 0 k) 0) zeros-test l h)
+
+pub spread-bit : (c : ℕ) → Spread c (c % 2 * 9223372036854775807)
+spread-bit c =
+    record { bit = λ l h. bit-cases (λ (x : ℕ). bitAt (x * 9223372036854775807) l ≡ x) (zeros-bit l h) (ones-bit l h) c }
+
+pub everywhere-bits : (c : ℕ) (r : Planes) → Spread c (r .b0) → Spread (c / 2) (r .b1) → Spread (c / 4) (r .b2) → Spread (c / 8) (r .b3)
+    → Spread (c / 16) (r .b4) → Spread (c / 32) (r .b5) → Everywhere c r
+unfolding elementAt
+everywhere-bits c r h0 h1 h2 h3 h4 h5 =
+    record {
+      at = λ l h.
+          of-same (h0 .bit l h) (h1 .bit l h) (h2 .bit l h) (h3 .bit l h) (h4 .bit l h) (h5 .bit l h) ∙ six-bits;
+    }
+  where
+    from4 : c / 32 % 2 * 2 + c / 16 % 2 ≡ c / 16 % 4
+    from4 = omega arith
+
+    from3 : c / 16 % 4 * 2 + c / 8 % 2 ≡ c / 8 % 8
+    from3 = omega arith
+
+    from2 : c / 8 % 8 * 2 + c / 4 % 2 ≡ c / 4 % 16
+    from2 = omega arith
+
+    from1 : c / 4 % 16 * 2 + c / 2 % 2 ≡ c / 2 % 32
+    from1 = omega arith
+
+    from0 : c / 2 % 32 * 2 + c % 2 ≡ c % 64
+    from0 = omega arith
+
+    six-bits : ofBits (c % 2) (c / 2 % 2) (c / 4 % 2) (c / 8 % 2) (c / 16 % 2) (c / 32 % 2) ≡ c % 64
+    six-bits =
+        ap (λ (h : ℕ). (((h * 2 + c / 8 % 2) * 2 + c / 4 % 2) * 2 + c / 2 % 2) * 2 + c % 2) from4
+        ∙ ap (λ (h : ℕ). ((h * 2 + c / 4 % 2) * 2 + c / 2 % 2) * 2 + c % 2) from3 ∙ ap (λ (h : ℕ). (h * 2 + c / 2 % 2) * 2 + c % 2) from2
+        ∙ ap (λ (h : ℕ). h * 2 + c % 2) from1 ∙ from0
+
+-- ---- sums and products, place by place
+
+module _ (v r : Planes) where
+  pub doubled-planes : r .b0 ≡ v .b5 → r .b1 ≡ bitXor (v .b0) (v .b5) → r .b2 ≡ v .b1 → r .b3 ≡ v .b2 → r .b4 ≡ v .b3 → r .b5 ≡ v .b4
+      → Doubled v r
+  unfolding elementAt
+  doubled-planes e0 e1 e2 e3 e4 e5 =
+      record {
+        at = λ l.
+            let at : ℕ → ℕ = λ w. bitAt w l in
+            of-same (ap at e0) (ap at e1 ∙ xor-bit (v .b0) (v .b5) l) (ap at e2) (ap at e3) (ap at e4) (ap at e5)
+            ∙ of-timesX (v .b0 / 2 ^ l) (v .b1 / 2 ^ l) (v .b2 / 2 ^ l) (v .b3 / 2 ^ l) (v .b4 / 2 ^ l) (v .b5 / 2 ^ l);
+      }
+
+  pub only-planes : (k : ℕ) → r .b0 ≡ bitAnd k (v .b0) → r .b1 ≡ bitAnd k (v .b1) → r .b2 ≡ bitAnd k (v .b2)
+      → r .b3 ≡ bitAnd k (v .b3) → r .b4 ≡ bitAnd k (v .b4) → r .b5 ≡ bitAnd k (v .b5) → OnlyAt k v r
+  unfolding elementAt
+  only-planes k e0 e1 e2 e3 e4 e5 =
+      record {
+        at = λ l.
+            let at : ℕ → ℕ = λ w. bitAt w l in
+            of-same (ap at e0 ∙ and-bit k (v .b0) l) (ap at e1 ∙ and-bit k (v .b1) l) (ap at e2 ∙ and-bit k (v .b2) l)
+            (ap at e3 ∙ and-bit k (v .b3) l) (ap at e4 ∙ and-bit k (v .b4) l) (ap at e5 ∙ and-bit k (v .b5) l)
+            ∙ of-scaled (bitAt (v .b0) l) (bitAt (v .b1) l) (bitAt (v .b2) l) (bitAt (v .b3) l) (bitAt (v .b4) l) (bitAt (v .b5) l) (k / 2 ^ l);
+      }
+
+  pub added-planes : (s : Planes) → r .b0 ≡ bitXor (s .b0) (v .b0) → r .b1 ≡ bitXor (s .b1) (v .b1) → r .b2 ≡ bitXor (s .b2) (v .b2)
+      → r .b3 ≡ bitXor (s .b3) (v .b3) → r .b4 ≡ bitXor (s .b4) (v .b4) → r .b5 ≡ bitXor (s .b5) (v .b5) → Added s v r
+  unfolding elementAt
+  added-planes s e0 e1 e2 e3 e4 e5 =
+      record {
+        at = λ l.
+            let at : ℕ → ℕ = λ w. bitAt w l in
+            of-same (ap at e0 ∙ xor-bit (s .b0) (v .b0) l) (ap at e1 ∙ xor-bit (s .b1) (v .b1) l) (ap at e2 ∙ xor-bit (s .b2) (v .b2) l)
+            (ap at e3 ∙ xor-bit (s .b3) (v .b3) l) (ap at e4 ∙ xor-bit (s .b4) (v .b4) l) (ap at e5 ∙ xor-bit (s .b5) (v .b5) l)
+            ∙ sym
+            (of-xor (s .b0 / 2 ^ l) (s .b1 / 2 ^ l) (s .b2 / 2 ^ l) (s .b3 / 2 ^ l) (s .b4 / 2 ^ l) (s .b5 / 2 ^ l)
+            (v .b0 / 2 ^ l) (v .b1 / 2 ^ l) (v .b2 / 2 ^ l) (v .b3 / 2 ^ l) (v .b4 / 2 ^ l) (v .b5 / 2 ^ l));
+      }
+
+pub next-bit : (s v t o r : Planes) (k : ℕ) → Doubled s t → OnlyAt k v o → Added t o r → NextBit s v k r
+next-bit s v t o r k d h a = record { at = λ l. a .at l ∙ ap₂ sum (d .at l) (h .at l) }
+
+-- ---- the product with the place, from its highest bit down
+
+doubled-zero : timesX 0 ≡ 0
+unfolding timesX sum
+doubled-zero = refl
+
+bit-doubled : (y u : ℕ) → y % 2 * timesX u ≡ timesX (y % 2 * u)
+bit-doubled y u =
+    bit-cases (λ (x : ℕ). x * timesX u ≡ timesX (x * u)) (simp zero-mul (sym doubled-zero)) (simp one-mul) y
+
+-- doubling first or last is the same
+shifted-doubled : (n u y : ℕ) → shifted n (timesX u) y ≡ timesX (shifted n u y)
+unfolding shifted
+shifted-doubled zero u y = sym doubled-zero
+shifted-doubled (suc n) u y =
+    ap₂ sum (bit-doubled y u) (shifted-doubled n (timesX u) (y / 2)) ∙ sym (Laws.timesX-sum (y % 2 * u) (shifted n (timesX u) (y / 2)))
+
+-- the highest bit alone
+first-bit : (u y s : ℕ) → s ≡ y % 2 * u → s ≡ shifted 1 u (y % 2)
+unfolding shifted
+first-bit u y s e =
+    e ∙ sym (Laws.sum-zero (y % 2 * u)) ∙ ap (λ (x : ℕ). sum (x * u) 0) (sym (mod-eq-of-lt (bit-lt y)))
+
+-- one bit more, below those that are done
+one-bit-more : (n u h y s r : ℕ) → s ≡ shifted n u h → r ≡ sum (timesX s) (y % 2 * u) → r ≡ shifted (suc n) u (h * 2 + y % 2)
+unfolding shifted
+one-bit-more n u h y s r q e =
+    let low : y % 2 ≡ (h * 2 + y % 2) % 2 = omega arith in
+    let up : h ≡ (h * 2 + y % 2) / 2 = omega arith in
+    e ∙ Laws.sum-comm (timesX s) (y % 2 * u)
+    ∙ ap₂ (λ (x t : ℕ). sum (x * u) t) low (ap timesX q ∙ sym (shifted-doubled n u h) ∙ ap (shifted n (timesX u)) up)
+
+-- six words hold the powers of α, as planes
+abbrev pub arePlaces : ℕ → ℕ → ℕ → ℕ → ℕ → ℕ → Bool
+arePlaces a b c d e f = each 63 (λ l. eqb (ofBits (bitAt a l) (bitAt b l) (bitAt c l) (bitAt d l) (bitAt e l) (bitAt f l)) (power α l))
+
+pub place-planes : (a b c d e f : ℕ) → T (arePlaces a b c d e f) → (v s5 s4 s3 s2 s1 r : Planes) → OnlyAt f v s5 → NextBit s5 v e s4 → NextBit s4 v d s3
+    → NextBit s3 v c s2 → NextBit s2 v b s1 → NextBit s1 v a r → PlaceMultiplied v r
+unfolding product
+place-planes a b c d e f t v s5 s4 s3 s2 s1 r h5 h4 h3 h2 h1 h0 =
+    record {
+      at = λ l h.
+          let u : ℕ = elementAt v l in
+          let is : ofBits (bitAt a l) (bitAt b l) (bitAt c l) (bitAt d l) (bitAt e l) (bitAt f l) ≡ power α l =
+          eqb→eq _ _ (each-at 63 (λ k. eqb (ofBits (bitAt a k) (bitAt b k) (bitAt c k) (bitAt d k) (bitAt e k) (bitAt f k)) (power α k)) t l h)
+          in
+          let p5 = first-bit u (f / 2 ^ l) (elementAt s5 l) (h5 .at l) in
+          let p4 = one-bit-more 1 u (bitAt f l) (e / 2 ^ l) (elementAt s5 l) (elementAt s4 l) p5 (h4 .at l) in
+          let p3 = one-bit-more 2 u _ (d / 2 ^ l) (elementAt s4 l) (elementAt s3 l) p4 (h3 .at l) in
+          let p2 = one-bit-more 3 u _ (c / 2 ^ l) (elementAt s3 l) (elementAt s2 l) p3 (h2 .at l) in
+          let p1 = one-bit-more 4 u _ (b / 2 ^ l) (elementAt s2 l) (elementAt s1 l) p2 (h1 .at l) in
+          let p0 = one-bit-more 5 u _ (a / 2 ^ l) (elementAt s1 l) (elementAt r l) p1 (h0 .at l) in
+          p0 ∙ ap₂ (shifted 6) (sym (mod-eq-of-lt (element-lt v l))) is;
+    }
+
+-- ---- the places whose element is 0
+
+other-bit : (b o : ℕ) → b ≡ bitXor 1 (o % 2) → (b ≡ 1 → o % 2 ≡ 0) × (b ≡ 0 → o % 2 ≡ 1)
+other-bit b o =
+    bit-cases (λ (x : ℕ). b ≡ bitXor 1 x → (b ≡ 1 → x ≡ 0) × (b ≡ 0 → x ≡ 1))
+    (λ e. ((λ p. refl), (λ p. absurd (omega arith)))) (λ e. ((λ p. absurd (omega arith)), (λ p. refl))) o
+
+no-bit : {x y o : ℕ} → Between x y o → o ≡ 0 → (x ≡ 0) × (y ≡ 0)
+no-bit h z = (omega arith, omega arith)
+
+no-bits : {x y o : ℕ} → Between x y o → x ≡ 0 → y ≡ 0 → o ≡ 0
+no-bits h p q = omega arith
+
+all-none : (a b c d e f : ℕ) → ofBits a b c d e f ≡ 0 → (a ≡ 0) × (b ≡ 0) × (c ≡ 0) × (d ≡ 0) × (e ≡ 0) × (f ≡ 0)
+all-none a b c d e f z = (omega arith, omega arith, omega arith, omega arith, omega arith, omega arith)
+
+-- six bits of which none is set make 0
+six-none : {a b c d e f p q r s t : ℕ} → Between a b p → Between p c q → Between q d r → Between r e s → Between s f t
+    → t ≡ 0 → ofBits a b c d e f ≡ 0
+six-none h1 h2 h3 h4 h5 z =
+    let z5 = no-bit h5 z in
+    let z4 = no-bit h4 (z5 .0) in
+    let z3 = no-bit h3 (z4 .0) in
+    let z2 = no-bit h2 (z3 .0) in
+    let z1 = no-bit h1 (z2 .0) in
+    of-same (z1 .0) (z1 .1) (z2 .1) (z3 .1) (z4 .1) (z5 .1)
+
+-- and only they
+six-only : {a b c d e f p q r s t : ℕ} → Between a b p → Between p c q → Between q d r → Between r e s → Between s f t
+    → ofBits a b c d e f ≡ 0 → t ≡ 0
+six-only {a} {b} {c} {d} {e} {f} h1 h2 h3 h4 h5 z =
+    let n = all-none a b c d e f z in
+    no-bits h5 (no-bits h4 (no-bits h3 (no-bits h2 (no-bits h1 (n .0) (n .1)) (n .2)) (n .3)) (n .4)) (n .5)
+
+one-not-zero : _≡_ {A = ℕ} 1 0 → ⊥
+one-not-zero e = omega arith
+
+pub zero-planes : (v : Planes) (o : ℕ) → o ≡ bitOr (bitOr (bitOr (bitOr (bitOr (v .b0) (v .b1)) (v .b2)) (v .b3)) (v .b4)) (v .b5)
+    → ZerosOf v (bitXor 9223372036854775807 (o % 9223372036854775808))
+unfolding elementAt
+zero-planes v o e =
+    record {
+      below = xor-lt 63 9223372036854775807 (o % 9223372036854775808) (omega arith) (omega arith);
+      zero = λ l h p. all-zero l (sym (ap (λ (w : ℕ). bitAt w l) e) ∙ turned l h .0 p);
+      other = λ l h p q. some-set l (sym (ap (λ (w : ℕ). bitAt w l) e) ∙ turned l h .1 p) q;
+    }
+  where
+    turned : (l : ℕ) → l < 63 → (bitAt (bitXor 9223372036854775807 (o % 9223372036854775808)) l ≡ 1 → bitAt o l ≡ 0)
+        × (bitAt (bitXor 9223372036854775807 (o % 9223372036854775808)) l ≡ 0 → bitAt o l ≡ 1)
+    turned l h =
+        other-bit _ (o / 2 ^ l)
+        (xor-bit 9223372036854775807 (o % 9223372036854775808) l ∙ ap₂ bitXor (ones-bit l h) (low-bit o l h))
+
+    o1 : ℕ
+    o1 = bitOr (v .b0) (v .b1)
+
+    o2 : ℕ
+    o2 = bitOr o1 (v .b2)
+
+    o3 : ℕ
+    o3 = bitOr o2 (v .b3)
+
+    o4 : ℕ
+    o4 = bitOr o3 (v .b4)
+
+    all-zero : (l : ℕ) → bitAt (bitOr o4 (v .b5)) l ≡ 0
+        → ofBits (bitAt (v .b0) l) (bitAt (v .b1) l) (bitAt (v .b2) l) (bitAt (v .b3) l) (bitAt (v .b4) l) (bitAt (v .b5) l) ≡ 0
+    all-zero l z =
+        six-none (or-between (v .b0) (v .b1) l) (or-between o1 (v .b2) l) (or-between o2 (v .b3) l) (or-between o3 (v .b4) l)
+        (or-between o4 (v .b5) l) z
+
+    some-set : (l : ℕ) → bitAt (bitOr o4 (v .b5)) l ≡ 1
+        → ofBits (bitAt (v .b0) l) (bitAt (v .b1) l) (bitAt (v .b2) l) (bitAt (v .b3) l) (bitAt (v .b4) l) (bitAt (v .b5) l) ≡ 0 → ⊥
+    some-set l z n =
+        one-not-zero (sym z ∙
+        six-only (or-between (v .b0) (v .b1) l) (or-between o1 (v .b2) l) (or-between o2 (v .b3) l) (or-between o3 (v .b4) l)
+        (or-between o4 (v .b5) l) n)
+
+-- ---- Horner's rule at every place
+
+-- of the coefficients, all from k on are taken
+pub record TakenFrom (p : List ℕ) (v : Planes) (k : ℕ) : Type 0 where
+  pub most : k ≤ 5
+  pub at : (l : ℕ) → l < 63 → elementAt v l ≡ polyAt (drop k p) (power α l) % 64
+
+-- one coefficient more, below
+horner : (c x u w : ℕ) (cs : List ℕ) → u ≡ polyAt cs x % 64 → w ≡ sum (product u x) (c % 64) → w ≡ polyAt (c ∷ cs) x % 64
+unfolding polyAt
+horner c x u w cs e q =
+    let y : ℕ = polyAt cs x in
+    let m : product u x ≡ product x y = ap (λ (t : ℕ). product t x) e ∙ Laws.product-low y x ∙ Laws.product-comm y x in
+    q ∙ Laws.sum-comm (product u x) (c % 64)
+    ∙ ap (sum (c % 64)) (m ∙ sym (mod-eq-of-lt (Laws.product-lt x y)))
+    ∙ sym (Laws.sum-low c (product x y))
+
+last-alone : (c x : ℕ) → c % 64 ≡ polyAt (c ∷ []) x % 64
+unfolding polyAt
+last-alone c x = ap (λ (t : ℕ). t % 64) (sym (Laws.sum-zero c) ∙ ap (sum c) (sym (Laws.product-zero x)))
+
+last-of : (p : List ℕ) → length p ≡ 6 → drop 5 p ≡ getD p 5 0 ∷ []
+last-of [] e = absurd (omega arith)
+last-of (a ∷ []) e = absurd (omega arith)
+last-of (a ∷ (b ∷ [])) e = absurd (omega arith)
+last-of (a ∷ (b ∷ (c ∷ []))) e = absurd (omega arith)
+last-of (a ∷ (b ∷ (c ∷ (d ∷ [])))) e = absurd (omega arith)
+last-of (a ∷ (b ∷ (c ∷ (d ∷ (g ∷ []))))) e = absurd (omega arith)
+last-of (a ∷ (b ∷ (c ∷ (d ∷ (g ∷ (h ∷ [])))))) e = refl
+last-of (a ∷ (b ∷ (c ∷ (d ∷ (g ∷ (h ∷ (i ∷ is))))))) e = absurd (omega arith)
+
+pub taken-last : (p : List ℕ) (v : Planes) → length p ≡ 6 → Everywhere (getD p 5 0) v → TakenFrom p v 5
+taken-last p v n h =
+    record {
+      most = omega arith;
+      at = λ l i. h .at l i ∙ last-alone (getD p 5 0) (power α l) ∙ ap (λ (cs : List ℕ). polyAt cs (power α l) % 64) (sym (last-of p n));
+    }
+
+pub taken-again : (p : List ℕ) (v m b w : Planes) (k j : ℕ) → length p ≡ 6 → TakenFrom p v k → 0 < k → j ≡ k - 1 → PlaceMultiplied v m
+    → Everywhere (getD p j 0) b → Added m b w → TakenFrom p w j
+taken-again p v m b w k j n t h e pm ev ad =
+    let d : suc j ≡ k = omega arith in
+    let i : j < length p = omega arith in
+    record {
+      most = omega arith;
+      at = λ l g.
+          let from : elementAt v l ≡ polyAt (drop (suc j) p) (power α l) % 64 =
+          t .at l g ∙ ap (λ (x : ℕ). polyAt (drop x p) (power α l) % 64) (sym d)
+          in
+          horner (getD p j 0) (power α l) (elementAt v l) (elementAt w l) (drop (suc j) p) from (ad .at l ∙ ap₂ sum (pm .at l g) (ev .at l g))
+          ∙ ap (λ (cs : List ℕ). polyAt cs (power α l) % 64) (sym (drop-cons p j 0 i));
+    }
+
+pub taken-all : (p : List ℕ) (v : Planes) (k r : ℕ) → TakenFrom p v k → k ≤ 0 → ZerosOf v r → RootsOf p r
+taken-all p v k r t n z =
+    let e : k ≡ 0 = omega arith in
+    let at : (l : ℕ) → l < 63 → elementAt v l ≡ polyAt p (power α l) % 64 =
+    λ l h. t .at l h ∙ ap (λ (x : ℕ). polyAt (drop x p) (power α l) % 64) e
+    in
+    record {
+      below = z .below;
+      root = λ l h b. sym (at l h) ∙ z .zero l h b;
+      other = λ l h b q. z .other l h b (at l h ∙ q);
+    }

@@ -1,0 +1,3 @@
+-- What the search for roots promises, and what its inner functions promise.
+pub mod Roots
+pub mod Slices

@@ -1,0 +1,131 @@
+// The roots of a polynomial among the 63 powers of α, all at once: 64 elements at a time, a word of 64 bits for each of their six bits.
+ghost use Rattle.planes.specs.Roots.{RootsOf};
+ghost use Rattle.planes.specs.Slices.{Spread, Everywhere, Doubled, Added, OnlyAt, NextBit, PlaceMultiplied, ZerosOf};
+
+// Bit l of each is one bit of the l-th power of α, the lowest bit first.
+const PLACE_0: u64 = 9032456453195372609;
+
+const PLACE_1: u64 = 570494640314067138;
+
+const PLACE_2: u64 = 1140989280628134276;
+
+const PLACE_3: u64 = 2281978561256268552;
+
+const PLACE_4: u64 = 4563957122512537104;
+
+const PLACE_5: u64 = 9127914245025074208;
+
+// Elements at 64 places: bit l of plane t is bit t of the element at l.
+struct Planes {
+    b0: u64,
+    b1: u64,
+    b2: u64,
+    b3: u64,
+    b4: u64,
+    b5: u64,
+}
+
+// The roots of a polynomial, its lowest coefficient first, among the powers of α: bit l is set where the l-th power is one. Of each coefficient the low six bits count.
+pub fn roots(p: [u8; 6]) -> u64
+    ensures { λ r. ⌜ RootsOf p r ⌝ }
+{
+    let mut v = everywhere(p[5]);
+    let mut k: usize = 5;
+    while k > 0 {
+        k -= 1;
+        let t = plus(times_place(v), everywhere(p[k]));
+        v = t;
+    }
+    zeros(v)
+}
+
+// The lowest bit of c at each of 63 places.
+fn spread(c: u8) -> u64
+    ensures { λ r. ⌜ Spread c r ⌝ }
+{
+    let b = c as u64;
+    b % 2 * 9223372036854775807
+}
+
+// The element c at each of 63 places.
+fn everywhere(c: u8) -> Planes
+    ensures { λ r. ⌜ Everywhere c r ⌝ }
+{
+    Planes {
+        b0: spread(c),
+        b1: spread(c / 2),
+        b2: spread(c / 4),
+        b3: spread(c / 8),
+        b4: spread(c / 16),
+        b5: spread(c / 32),
+    }
+}
+
+// x times each element: what would be x^6 becomes x + 1.
+fn times_x(v: Planes) -> Planes
+    ensures { λ r. ⌜ Doubled v r ⌝ }
+{
+    Planes {
+        b0: v.b5,
+        b1: v.b0 ^ v.b5,
+        b2: v.b1,
+        b3: v.b2,
+        b4: v.b3,
+        b5: v.b4,
+    }
+}
+
+// The sums, place by place.
+fn plus(s: Planes, v: Planes) -> Planes
+    ensures { λ r. ⌜ Added s v r ⌝ }
+{
+    Planes {
+        b0: s.b0 ^ v.b0,
+        b1: s.b1 ^ v.b1,
+        b2: s.b2 ^ v.b2,
+        b3: s.b3 ^ v.b3,
+        b4: s.b4 ^ v.b4,
+        b5: s.b5 ^ v.b5,
+    }
+}
+
+// v at the places that k has, 0 at the others.
+fn only_at(v: Planes, k: u64) -> Planes
+    ensures { λ r. ⌜ OnlyAt k v r ⌝ }
+{
+    Planes {
+        b0: k & v.b0,
+        b1: k & v.b1,
+        b2: k & v.b2,
+        b3: k & v.b3,
+        b4: k & v.b4,
+        b5: k & v.b5,
+    }
+}
+
+// x times s, and v added at the places that k has.
+fn next_bit(s: Planes, v: Planes, k: u64) -> Planes
+    ensures { λ r. ⌜ NextBit s v k r ⌝ }
+{
+    plus(times_x(s), only_at(v, k))
+}
+
+// At each place l the product with the l-th power of α, by shift and add, from its highest bit down: no branch and no table.
+fn times_place(v: Planes) -> Planes
+    ensures { λ r. ⌜ PlaceMultiplied v r ⌝ }
+{
+    let s5 = only_at(v, PLACE_5);
+    let s4 = next_bit(s5, v, PLACE_4);
+    let s3 = next_bit(s4, v, PLACE_3);
+    let s2 = next_bit(s3, v, PLACE_2);
+    let s1 = next_bit(s2, v, PLACE_1);
+    next_bit(s1, v, PLACE_0)
+}
+
+// The places below 63 whose element is 0.
+fn zeros(v: Planes) -> u64
+    ensures { λ r. ⌜ ZerosOf v r ⌝ }
+{
+    let some = v.b0 | v.b1 | v.b2 | v.b3 | v.b4 | v.b5;
+    9223372036854775807 ^ (some % 9223372036854775808)
+}

@@ -4,4 +4,5 @@ pub mod Fitting
 pub mod Turns
 pub mod Finding
 pub mod OneError
+pub mod Rooting
 pub mod Theorems

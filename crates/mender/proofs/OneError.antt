@@ -29,7 +29,7 @@ use Rattle.mender.specs.Found.{lone, OneError}
 
 -- ---- the word with one character
 
-zero-get : (n k : ℕ) → _≡_ {A = ℕ} (getD (replicate n 0) k 0) 0
+pub zero-get : (n k : ℕ) → _≡_ {A = ℕ} (getD (replicate n 0) k 0) 0
 zero-get zero k = refl
 zero-get (suc n) zero = refl
 zero-get (suc n) (suc k) = zero-get n k

@@ -2,7 +2,7 @@
 use mathlib.Core.Path.{_≡_}
 use mathlib.Core.Bool.{true}
 use mathlib.Core.List.{List}
-use Prim.Native.Nat.{ℕ, _<_}
+use Prim.Native.Nat.{ℕ, _/_, _%_, _^_, _<_, _≤_}
 use lib.ListN.{getD, replicate, set}
 use Rattle.polynomial.specs.Sums.{weight}
 use Rattle.mender.specs.declared.Single.{Single}
@@ -19,6 +19,12 @@ pub record OneError (s : List ℕ) (o : Single) : Type 0 where
   pub inside : o .found ≡ true → o .address < 63
   pub some : o .found ≡ true → 0 < o .value
   pub fits : o .found ≡ true → Fits s 11 1 (lone (o .address) (o .value))
+
+-- r is the first place from `from` on whose bit is set, of 63; or none is, and r is 63
+pub record RootFrom (roots from r : ℕ) : Type 0 where
+  pub least : from ≤ r
+  pub most : r ≤ 63
+  pub none : (l : ℕ) → from ≤ l → l < r → roots / 2 ^ l % 2 ≡ 0
 
 -- the characters are the values at their places, and counted
 pub record Patterned (p s : List ℕ) (r : Pattern) : Type 0 where

@@ -11,7 +11,7 @@ ghost use Rattle.code.specs.Word.{added};
 ghost use Rattle.mender.specs.Mender.{MendsTo, Mends, NearestWith, NearestClean};
 ghost use mathlib.Core.Bool.{true, false};
 ghost use Rattle.code.specs.Held.{eleven};
-ghost use Rattle.mender.specs.Found.{OneError, Patterned, ElementsTo};
+ghost use Rattle.mender.specs.Found.{OneError, RootFrom, Patterned, ElementsTo};
 ghost use Rattle.mender.specs.Inside.{mixed, coef, Units, Spanned, Pivot, RowAdded, Stepped, First, Small, valueOf, ValuedFrom, Agree, Nothing};
 
 use code::Eleven;
@@ -244,6 +244,42 @@ fn values(p: [u8; 6], s: [u8; 11]) -> [u8; 63]
         l += 1;
     }
     w
+}
+
+// The values at the roots of the locator p, place by place from 1 on: the place of address 62 - l is α^l. No other place has a value.
+fn values_at_roots(p: [u8; 6], s: [u8; 11]) -> Pattern
+    requires { ⌜ Small p ⌝ }
+    ensures { λ r. ⌜ Patterned p s r ⌝ }
+{
+    let roots = planes::roots(p);
+    let mut w = [0u8; 63];
+    let mut n: u8 = 0;
+    let mut l = root_from(roots, 0);
+    while l < 63 {
+        let v = value(p, s, places::power_of(l as u8));
+        w[62 - l] = v;
+        if v != 0 {
+            n += 1;
+        }
+        let after = root_from(roots, l + 1);
+        l = after;
+    }
+    Pattern {
+        word: w,
+        weight: n,
+    }
+}
+
+// The first set bit from a place on, or 63.
+fn root_from(roots: u64, from: usize) -> usize
+    requires { ⌜ from ≤ 63 ⌝ }
+    ensures { λ r. ⌜ RootFrom roots from r ⌝ }
+{
+    let rest = roots % 9223372036854775808 >> from;
+    if rest == 0 {
+        return 63;
+    }
+    from + u64::trailing_zeros(rest) as usize
 }
 
 // The value at the place x, by the locator p.

@@ -1,7 +1,7 @@
 -- The laws of lanes: what packing keeps, and what exclusive or, masks and shifts do to every lane.
 use mathlib.Core.Path.{_≡_, refl, sym, ap, ap₂, _∙_}
 use Prim.Native.Nat.{ℕ, zero, suc, _+_, _*_, _/_, _%_, _^_, _<_, _-_}
-use native.Mathlib.Nat.{div-div-eq-div-mul, mul-right-comm, add-mul, div-one, pow-succ', pow-suc, div-add-mod', mod-eq-of-lt, mod-lt, zero-lt-suc, zero-add, zero-mul, mul-one, mul-assoc, add-right-comm}
+use native.Mathlib.Nat.{div-div-eq-div-mul, mul-right-comm, add-mul, div-one, pow-succ', pow-suc, div-add-mod', mod-eq-of-lt, mod-lt, zero-lt-suc, zero-add, zero-mul, mul-one, mul-assoc, add-right-comm, suc-add}
 use native.Mathlib.Omega.{arith}
 use lib.Arith.{digits-div, digits-mod, mod-mul}
 use lib.Bits.{bitXor, bitAnd, xor-block, and-block, and-zero-r, xor-mod, xor-shr}
@@ -21,6 +21,13 @@ lane-zero p = ap (λ (n : ℕ). n % 64) (div-one p)
 pub lane-suc : (p k : ℕ) → lane p (suc k) ≡ lane (p / 64) k
 unfolding lane
 lane-suc p k = ap (λ (n : ℕ). n % 64) (ap (λ (m : ℕ). p / m) (pow-succ' 64 k) ∙ sym (div-div-eq-div-mul p 64 (64 ^ k)))
+
+-- the lanes after the first n
+pub lane-after : (p n k : ℕ) → lane (p / 64 ^ n) k ≡ lane p (n + k)
+lane-after p zero k = ap₂ lane (div-one p) (sym (zero-add k))
+lane-after p (suc n) k =
+    ap (λ (q : ℕ). lane q k) (ap (λ (m : ℕ). p / m) (pow-succ' 64 n) ∙ sym (div-div-eq-div-mul p 64 (64 ^ n)))
+    ∙ lane-after (p / 64) n k ∙ sym (lane-suc p (n + k)) ∙ ap (lane p) (sym (suc-add n k))
 
 -- ---- packing
 

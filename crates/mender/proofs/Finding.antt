@@ -1,14 +1,15 @@
 -- The word that is found is the one that fits, and where a test fails none does; from errors to the nearest word with given sums.
 use mathlib.Core.Path.{_≡_, refl, sym, ap, _∙_, subst}
 use mathlib.Core.Bool.{Bool, true, false, cond}
-use mathlib.Core.Logic.{⊎-elim}
+use mathlib.Core.Logic.{inl, inr, ⊎-elim}
 use mathlib.Core.List.{List, []}
 use Prim.Native.Nat.{ℕ, zero, suc, min, _+_, _-_, _/_, _<_, _≤_}
 use native.Mathlib.Nat.{le-trans, le-of-eq}
 use native.Mathlib.Omega.{arith}
-use lib.ListN.{getD, length, replicate}
+use lib.ListN.{getD, length, replicate, List·getD-eq-default}
 use lib.Seq.{ext-getD}
 use lib.Dec.{eqb}
+use Rattle.numbers.proofs.Cases.{le-or-lt}
 use Rattle.refusal.specs.Promise.{Tells}
 use Rattle.field.specs.Field.{sum, product, α, power}
 use Rattle.field.specs.Inside.{inverse}
@@ -23,7 +24,7 @@ use Rattle.code.proofs.Sums.{powerSum-added}
 use Rattle.mender.specs.declared.Mended.{Mended}
 use Rattle.mender.specs.Mender.{Fits, MendsTo, Mends, Word, Nearest, HasSums}
 use Rattle.mender.specs.Inside.{mixed, coef, at, Spanned, First, Small, valueOf, ValuedFrom, Agree, Nothing}
-use Rattle.mender.proofs.Fitting.{row-least, some-row, value-is}
+use Rattle.mender.proofs.Fitting.{Least, combines-more, value-is}
 
 pub true-false : true ≡ false → ⊥
 true-false e = let z : _≡_ {A = ℕ} 0 1 = cc in omega arith
@@ -50,27 +51,27 @@ valued-characters p s w v =
     characters-below w 63 (le-of-eq (v .long))
     (λ a h. subst (λ (t : ℕ). t < 64) (sym (valued-at p s w v a h)) (value-small p s (power α (62 - a))))
 
-pub row-small : (s : List ℕ) (e n : ℕ) (m : List (List ℕ)) (r : ℕ) → Spanned s e n m → Small (getD m r [])
-row-small s e n m r a = record { small = a .small r }
+-- ---- what a locator gives is the one word that fits
 
--- ---- no row left: no word; a row left: the word that fits is the one that it gives
+-- e errors at most, told by n windows of c sums
+pub record Told (c e n : ℕ) : Type 0 where
+  pub few : c ≤ 11
+  pub most : e ≤ 5
+  pub enough : e ≤ n
+  pub among : n + e ≤ c
 
-module _ (s : List ℕ) (c e : ℕ) (m : List (List ℕ)) (r : ℕ) (h : c ≤ 11) (g : e ≤ c / 2) (a : Spanned s e (c - c / 2) m) (f : First m r) where
-  empty-row : (i k : ℕ) → i < r → at m i k ≡ 0
-  empty-row i k l = ⊎-elim (λ z. z k) (λ (o : at m i i ≡ 1). let z = f .before i l in absurd (omega arith)) (a .own i)
+module _ (s : List ℕ) (c e n r : ℕ) (p : List ℕ) (b : Told c e n) (a : Least s e n r p) where
+  only-word : (w : List ℕ) → ValuedFrom p s w 63 → (u : List ℕ) → Fits s c e u → w ≡ u
+  only-word w v u t =
+      ext-getD 0 w u (v .long ∙ sym (t .long))
+      (λ i k. valued-at p s w v i (omega (arith, v .long))
+      ∙ value-is s c e n u (b .enough) (b .among) (b .most) t p r a i (omega (arith, v .long)))
 
-  no-row : 6 ≤ r → (w : List ℕ) → Fits s c e w → ⊥
-  no-row l w t = some-row s c e (c - c / 2) w (omega arith) (omega arith) (omega arith) t m a (λ i k b. empty-row i k (omega arith))
-
-  module _ (w : List ℕ) (l : r < 6) (v : ValuedFrom (getD m r []) s w 63) where
-    own-one : at m r r ≡ 1
-    own-one = ⊎-elim (λ z. absurd (f .here l (z r))) (λ o. o) (a .own r)
-
-    only-word : (u : List ℕ) → Fits s c e u → w ≡ u
-    only-word u t =
-        ext-getD 0 w u (v .long ∙ sym (t .long))
-        (λ b k. valued-at (getD m r []) s w v b (omega (arith, v .long))
-        ∙ value-is s c e (c - c / 2) u (omega arith) (omega arith) (omega arith) t (getD m r []) r (row-least s e (c - c / 2) m r a l own-one empty-row) b (omega (arith, v .long)))
+  -- of eleven sums a sixth window is there, and the locator combines it to 0 too
+  sixth : c ≡ 11 → (u : List ℕ) → Fits s c e u → mixed (coef p) s 5 ≡ 0
+  sixth q u t =
+      combines-more s c e n u (b .enough) (b .among) (b .most) t p r a 5
+      (λ k. ⊎-elim (λ (g : 6 ≤ k). inl (List·getD-eq-default p 0 (le-trans (le-of-eq (a .wide)) g))) (λ (g : k < 6). inr (omega arith)) (le-or-lt 6 k))
 
 -- ---- the ways out of find
 
@@ -84,43 +85,54 @@ found-none s c e m n h =
       no-word = λ t. n .no-word;
     }
 
-module _ (s : List ℕ) (c e : ℕ) (m : List (List ℕ)) (r : ℕ) (out : Mended) (bounds : (c ≤ 11) × (e ≤ c / 2)) (a : Spanned s e (c - c / 2) m) (f : First m r) where
-  pub found-no-row : 6 ≤ r → Nothing out → MendsTo s c e out
-  found-no-row l n = found-none s c e out n (no-row s c e m r (bounds .0) (bounds .1) a f l)
+module _ (s : List ℕ) (c e n r : ℕ) (p : List ℕ) (out : Mended) (b : Told c e n) (a : Least s e n r p) where
+  pub found-no-sixth : c ≡ 11 → (mixed (coef p) s 5 ≡ 0 → ⊥) → Nothing out → MendsTo s c e out
+  found-no-sixth q d o = found-none s c e out o (λ u t. d (sixth s c e n r p b a q u t))
 
-  module _ (l : r < 6) (w : List ℕ) (v : ValuedFrom (getD m r []) s w 63) (n : ℕ) (weighs : n ≡ weight w) where
-    pub found-heavy : e < n → Nothing out → MendsTo s c e out
-    found-heavy b o =
+  module _ (w : List ℕ) (v : ValuedFrom p s w 63) (m : ℕ) (weighs : m ≡ weight w) where
+    pub found-heavy : e < m → Nothing out → MendsTo s c e out
+    found-heavy h o =
         found-none s c e out o
         (λ u t.
-        let z : n ≡ weight u = weighs ∙ ap weight (only-word s c e m r (bounds .0) (bounds .1) a f w l v u t) in
+        let z : m ≡ weight u = weighs ∙ ap weight (only-word s c e n r p b a w v u t) in
         let y = t .light in
         omega arith)
 
-    module _ (t : List ℕ) (sums : PowerSums w t) (b : Bool) (agrees : Tells (Agree s t c) b) where
-      pub found-other : b ≡ false → Nothing out → MendsTo s c e out
+    module _ (t : List ℕ) (sums : PowerSums w t) (f : Bool) (agrees : Tells (Agree s t c) f) where
+      pub found-other : f ≡ false → Nothing out → MendsTo s c e out
       found-other q o =
           found-none s c e out o
           (λ u y.
           agrees .fails q
           (λ k i.
-          y .sums k i ∙ ap (powerSum (58 + k)) (sym (only-word s c e m r (bounds .0) (bounds .1) a f w l v u y))
-          ∙ sym (sums .sum-at k (let g = bounds .0 in omega arith))))
+          y .sums k i ∙ ap (powerSum (58 + k)) (sym (only-word s c e n r p b a w v u y))
+          ∙ sym (sums .sum-at k (let g = b .few in omega arith))))
 
-      pub found-word : n ≤ e → b ≡ true → MendsTo s c e (record { found = true; weight = n; word = w })
+      pub found-word : m ≤ e → f ≡ true → MendsTo s c e (record { found = true; weight = m; word = w })
       found-word y q =
           record {
             fits = λ _. record {
               long = v .long;
-              characters = valued-characters (getD m r []) s w v;
+              characters = valued-characters p s w v;
               light = omega arith;
-              sums = λ k i. agrees .holds q k i ∙ sums .sum-at k (let g = bounds .0 in omega arith);
+              sums = λ k i. agrees .holds q k i ∙ sums .sum-at k (let g = b .few in omega arith);
             };
             weighs = λ _. weighs;
             none = λ z. absurd (true-false z);
             no-weight = λ z. absurd (true-false z);
             no-word = λ z. absurd (true-false z);
           }
+
+-- a word that fits is what is found
+pub found-fits : (s : List ℕ) (c e : ℕ) (m : ℕ) (w : List ℕ) → Fits s c e w → m ≡ weight w → MendsTo s c e (record { found = true; weight = m; word = w })
+found-fits s c e m w f g =
+    record {
+      fits = λ _. f;
+      weighs = λ _. g;
+      none = λ z. absurd (true-false z);
+      no-weight = λ z. absurd (true-false z);
+      no-word = λ z. absurd (true-false z);
+    }
 
 -- ---- mend
 
@@ -135,7 +147,7 @@ mended-bounds c e x y ex ey = (omega arith, omega arith)
 -- ---- the nearest word with given sums
 
 module _ (P : List ℕ → Type 0) (w : List ℕ) (e : ℕ) (m : Mended) (n : Nothing m) where
-  nearest-none : (Word w → (v : List ℕ) → P v → distance w v ≤ e → ⊥) → Nearest P w e m
+  pub nearest-none : (Word w → (v : List ℕ) → P v → distance w v ≤ e → ⊥) → Nearest P w e m
   nearest-none h =
       record {
         of-word = λ t. absurd (true-false (sym t ∙ n .not-found));

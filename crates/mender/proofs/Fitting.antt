@@ -16,11 +16,11 @@ use Rattle.field.proofs.Totals.{total-none, total-front}
 use Rattle.polynomial.specs.Sums.{moment, Places, Values, Zeros}
 use Rattle.polynomial.specs.Polynomial.{polyAt, combined, scaled, over, locator}
 use Rattle.polynomial.proofs.Places.{place-pos, place-lt}
-use Rattle.polynomial.proofs.Vandermonde.{zeros-get}
+use Rattle.polynomial.proofs.Vandermonde.{zeros-get, zeros-moment}
 use Rattle.polynomial.proofs.Combining.{scaled-get}
 use Rattle.polynomial.proofs.Division.{over-get, length-over, poly-past, poly-small, over-small}
 use Rattle.polynomial.proofs.Locator.{locator-elements}
-use Rattle.polynomial.proofs.Theorems.{zero-at-places, Locates, a-locator, one-value-left}
+use Rattle.polynomial.proofs.Theorems.{combining, zero-at-places, Locates, a-locator, one-value-left}
 use Rattle.code.proofs.Sums.{places, places-long, places-get, places-good, values-63, powerSum-moment}
 use Rattle.mender.specs.Mender.{Fits}
 use Rattle.mender.specs.Inside.{mixed, coef, at, Degree, Spanned, valueOf}
@@ -143,6 +143,11 @@ module _ (s : List ℕ) (c e n : ℕ) (w : List ℕ) (enough : e ≤ n) (few : n
 
     zero-at-errors : Zeros (scaled p w xs)
     zero-at-errors = zero-at-places p xs w n 58 xs-good xs-values (let g = fits .light in omega arith) solves
+
+    -- so it combines any window to 0 whose sums are among the c
+    pub combines-more : (j : ℕ) → ((k : ℕ) → (getD p k 0 ≡ 0) ⊎ (j + k < c)) → mixed (coef p) s j ≡ 0
+    combines-more j g =
+        mixed-fits p j (le-of-eq (a .wide)) g ∙ combining p (58 + j) w xs ∙ zeros-moment (58 + j) (scaled p w xs) xs zero-at-errors
 
     module _ (b : ℕ) (hb : b < 63) where
       x : ℕ

@@ -5,4 +5,5 @@ pub mod Turns
 pub mod Finding
 pub mod OneError
 pub mod Rooting
+pub mod Repairing
 pub mod Theorems

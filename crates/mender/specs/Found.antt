@@ -1,10 +1,14 @@
 -- What the mender's quick ways promise: one error told from the sums, and the values at the roots alone.
 use mathlib.Core.Path.{_≡_}
-use mathlib.Core.Bool.{true}
+use mathlib.Core.Bool.{true, false}
 use mathlib.Core.List.{List}
-use Prim.Native.Nat.{ℕ, _/_, _%_, _^_, _<_, _≤_}
+use Prim.Native.Nat.{ℕ, _+_, _/_, _%_, _^_, _<_, _≤_}
 use lib.ListN.{getD, replicate, set}
+use Rattle.field.specs.Field.{product, total}
+use Rattle.lanes.specs.Lanes.{lane}
 use Rattle.polynomial.specs.Sums.{weight}
+use Rattle.code.specs.Word.{added}
+use Rattle.mender.specs.declared.Mended.{Mended}
 use Rattle.mender.specs.declared.Single.{Single}
 use Rattle.mender.specs.declared.Pattern.{Pattern}
 use Rattle.mender.specs.Mender.{Fits}
@@ -34,3 +38,25 @@ pub record Patterned (p s : List ℕ) (r : Pattern) : Type 0 where
 -- the first c of eleven sums are elements
 abbrev pub ElementsTo : List ℕ → ℕ → Type 0
 ElementsTo s c = (k : ℕ) → k < c → getD s k 0 < 64
+
+-- eleven sums that are all 0
+pub record Clear (s : List ℕ) : Type 0 where
+  pub zero : (k : ℕ) → k < 11 → getD s k 0 ≡ 0
+
+-- the errors x that were taken from w
+pub record Repaired (s w : List ℕ) (e : ℕ) (m : Mended) : Type 0 where
+  pub errors : List ℕ
+  pub fits : Fits s 11 e errors
+  pub weighs : m .weight ≡ weight errors
+  pub word : m .word ≡ added w errors
+
+-- w without the at most e errors that have these eleven sums; or none do, and 0 and 63 zeros stand for it
+pub record Repairs (s w : List ℕ) (e : ℕ) (m : Mended) : Type 0 where
+  pub repaired : m .found ≡ true → Repaired s w e m
+  pub none : m .found ≡ false → (x : List ℕ) → Fits s 11 e x → ⊥
+  pub no-weight : m .found ≡ false → m .weight ≡ 0
+  pub no-word : m .found ≡ false → m .word ≡ replicate 63 0
+
+-- the sixth window, combined with the coefficients of a packed row, which stand after five lanes
+unfoldable pub sixth : ℕ → List ℕ → ℕ
+sixth x s = total 6 (λ k. product (lane x (5 + k)) (getD s (5 + k) 0))

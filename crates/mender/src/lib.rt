@@ -11,7 +11,7 @@ ghost use Rattle.code.specs.Word.{added};
 ghost use Rattle.mender.specs.Mender.{MendsTo, Mends, NearestWith, NearestClean};
 ghost use mathlib.Core.Bool.{true, false};
 ghost use Rattle.code.specs.Held.{eleven};
-ghost use Rattle.mender.specs.Found.{OneError, RootFrom, Patterned, ElementsTo};
+ghost use Rattle.mender.specs.Found.{lone, OneError, RootFrom, Patterned, ElementsTo, Clear, Repairs, sixth};
 ghost use Rattle.mender.specs.Inside.{mixed, coef, Units, Spanned, Pivot, RowAdded, Stepped, First, Small, valueOf, ValuedFrom, Agree, Nothing};
 
 use code::Eleven;
@@ -42,7 +42,17 @@ pub fn mend(sums: [u8; 11], c: usize, e: usize) -> Mended
 {
     let most = least(c, 11);
     let errors = least(e, most / 2);
-    find(sums, most, errors)
+    if !elements_to(sums, most) {
+        return nothing();
+    }
+    find(code::packed(sums), most, errors)
+}
+
+// The same from all eleven sums, packed.
+pub fn mend_eleven(sums: Eleven, e: usize) -> Mended
+    ensures { λ r. ⌜ Mends (eleven sums) 11 e r ⌝ }
+{
+    find(sums, 11, least(e, 5))
 }
 
 // The word with these power sums within e of a word: e counts up to 5.
@@ -55,18 +65,84 @@ pub fn nearest(word: &[u8], sums: [u8; 11], e: usize) -> Mended
     if !code::in_range(word) {
         return nothing();
     }
-    let differences = sums_added(code::power_sums(word), sums);
-    let errors = mend(differences, 11, e);
+    if !elements_to(sums, 11) {
+        return nothing();
+    }
+    let differences = code::eleven_added(code::eleven_sums(word), code::packed(sums));
+    repaired(word, differences, least(e, 5))
+}
+
+// A word without the at most e errors that have these sums. No error and one are told at once, since nearly all words have no more.
+fn repaired(word: &[u8], sums: Eleven, e: usize) -> Mended
+    requires { ⌜ length (now word) ≡ 63 ⌝ }
+    requires { ⌜ e ≤ 5 ⌝ }
+    ensures { λ r. ⌜ Repairs (eleven sums) (now (word .entry)) e r ⌝ }
+{
+    if all_zero(sums) {
+        return Mended {
+            found: true,
+            weight: 0,
+            word: word_added(word, [0u8; 63]),
+        };
+    }
+    if e > 0 {
+        let one = lone_error(sums);
+        if one.found {
+            return Mended {
+                found: true,
+                weight: 1,
+                word: changed(word, one.address, one.value),
+            };
+        }
+    }
+    let errors = find(sums, 11, e);
     if !errors.found {
         return nothing();
     }
-    let pattern = errors.word;
-    let repaired = word_added(word, pattern);
     Mended {
         found: true,
         weight: errors.weight,
-        word: repaired,
+        word: word_added(word, errors.word),
     }
+}
+
+// Whether eleven sums are all 0.
+fn all_zero(sums: Eleven) -> bool
+    ensures { λ r. ⌜ Tells (Clear (eleven sums)) r ⌝ }
+{
+    if sums.first % 1152921504606846976 != 0 {
+        return false;
+    }
+    if sums.last % 64 != 0 {
+        return false;
+    }
+    true
+}
+
+// A word with a value added at one address.
+fn changed(word: &[u8], address: usize, value: u8) -> [u8; 63]
+    requires { ⌜ length (now word) ≡ 63 ⌝ }
+    requires { ⌜ address < 63 ⌝ }
+    ensures { λ r. ⌜ r ≡ added (now (word .entry)) (lone address value) ⌝ }
+{
+    let mut r = word_added(word, [0u8; 63]);
+    r[address] = r[address] ^ value;
+    r
+}
+
+// Whether the first c sums are elements.
+fn elements_to(sums: [u8; 11], c: usize) -> bool
+    requires { ⌜ c ≤ 11 ⌝ }
+    ensures { λ r. ⌜ Tells (ElementsTo sums c) r ⌝ }
+{
+    let mut k: usize = 0;
+    while k < c {
+        if sums[k] > 63 {
+            return false;
+        }
+        k += 1;
+    }
+    true
 }
 
 // The clean word within e of a word: e counts up to 5.
@@ -95,32 +171,50 @@ fn nothing() -> Mended
     }
 }
 
-// The word of at most e errors with these c sums. The pattern found is weighed, and its sums are taken again: what passes is the word, and
-// where one fails there is none.
-fn find(s: [u8; 11], c: usize, e: usize) -> Mended
+// The word of at most e errors with these c sums. The locator that five windows leave is held against a sixth where there is one, which nearly
+// every locator of too many errors fails; the pattern found is weighed, and its sums are taken again: what passes is the word, and where one
+// fails there is none.
+fn find(s: Eleven, c: usize, e: usize) -> Mended
     requires { ⌜ (c ≤ 11) × (e ≤ c / 2) ⌝ }
-    ensures { λ r. ⌜ MendsTo s c e r ⌝ }
+    ensures { λ r. ⌜ MendsTo (eleven s) c e r ⌝ }
 {
-    let m = kernel(s, c - c / 2, e);
-    let r = first(m);
+    let x = spanned_rows(s.first, e, c - c / 2);
+    let r = first_row(x);
     if r >= 6 {
         return nothing();
     }
-    let p = m[r];
-    let w = values(p, s);
-    let n = weight_of(w);
-    if n as usize > e {
+    let row = x[r];
+    if c == 11 {
+        if !sixth_window(row, s) {
+            return nothing();
+        }
+    }
+    let sums = code::unpacked(s);
+    let pattern = values_at_roots(coefficients(row), sums);
+    if pattern.weight as usize > e {
         return nothing();
     }
+    let w = pattern.word;
     let t = code::power_sums(&w);
-    if !agree(s, t, c) {
+    if !agree(sums, t, c) {
         return nothing();
     }
     Mended {
         found: true,
-        weight: n,
+        weight: pattern.weight,
         word: w,
     }
+}
+
+// Whether a row combines the sixth window to 0.
+fn sixth_window(x: u64, s: Eleven) -> bool
+    ensures { λ r. ⌜ Tells (sixth x (eleven s) ≡ 0) r ⌝ }
+{
+    let window = s.first / 1073741824 % 1073741824 + (s.last % 64) as u64 * 1073741824;
+    if lanes::sum_of(lanes::products(x / 1073741824, window)) != 0 {
+        return false;
+    }
+    true
 }
 
 // The polynomials of degree at most e that combine n windows of the sums to 0.
@@ -408,3 +502,9 @@ fn no_single() -> Single
         value: 0,
     }
 }
+
+fn spanned_rows(sums: u64, e: usize, n: usize) -> [u64; 6] { [0u64; 6] }
+
+fn first_row(x: [u64; 6]) -> usize { 6 }
+
+fn coefficients(x: u64) -> [u8; 6] { [0u8; 6] }

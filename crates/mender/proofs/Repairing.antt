@@ -1,0 +1,262 @@
+-- From eleven sums to the repaired word: no error, one error, and any number; and the test of the sixth window.
+use mathlib.Core.Path.{_≡_, refl, sym, ap, ap₂, _∙_, subst}
+use mathlib.Core.Bool.{Bool, true, false}
+use mathlib.Core.Logic.{⊎-elim}
+use mathlib.Core.List.{List, []}
+use Prim.Native.Nat.{ℕ, zero, suc, min, _+_, _-_, _*_, _/_, _%_, _^_, _<_, _≤_}
+use native.Mathlib.Nat.{le-trans, le-of-eq, zero-mul}
+use native.Mathlib.Omega.{arith}
+use borrow.Author.Count.{below-none, below-more}
+use lib.ListN.{getD, length, replicate, set, length-set, length-replicate, List·getD-eq-default}
+use lib.Seq.{ext-getD, getD-set-same, getD-set-other}
+use lib.Bits.{bitXor}
+use Rattle.numbers.proofs.Cases.{le-or-lt, same-or-not}
+use Rattle.refusal.specs.Promise.{Tells}
+use Rattle.refusal.proofs.Laws.{tells-yes, tells-no}
+use Rattle.field.specs.Field.{sum, product, total}
+use Rattle.field.proofs.Laws
+use Rattle.field.proofs.Totals.{total-same}
+use Rattle.lanes.specs.Lanes.{pack, lane}
+use Rattle.lanes.proofs.Laws.{lane-lt, lane-after, pack-same, pack-more, pack-last, pack-equal, pack-lanes, lane-pack}
+use Rattle.polynomial.specs.Sums.{weight}
+use Rattle.code.specs.Word.{Characters, powerSum, added, distance}
+use Rattle.code.specs.Inside.{PowerSums}
+use Rattle.code.specs.declared.Eleven.{Eleven}
+use Rattle.code.specs.Held.{eleven, lowered}
+use Rattle.code.proofs.Words.{listed-get, length-added, added-get}
+use Rattle.code.proofs.Sums.{powerSum-lt}
+use Rattle.code.proofs.Holding.{eleven-first, eleven-last, eleven-long, eleven-characters}
+use Rattle.mender.specs.declared.Mended.{Mended}
+use Rattle.mender.specs.declared.Single.{Single}
+use Rattle.mender.specs.Mender.{Fits, MendsTo, Mends, Word, Nearest, HasSums}
+use Rattle.mender.specs.Inside.{Nothing}
+use Rattle.mender.specs.Found.{lone, OneError, ElementsTo, Clear, Repaired, Repairs, sixth}
+use Rattle.mender.proofs.OneError.{zero-get, lone-long, lone-here, lone-other, lone-weight, weight-nothing, sums-nothing}
+use Rattle.mender.proofs.Finding.{true-false, found-none, found-fits, none-near, one-near, nearest-none}
+
+-- ---- whether the first c sums are elements
+
+pub elements-over : (s : List ℕ) (c k : ℕ) → k < c → 63 < getD s k 0 → Tells (ElementsTo s c) false
+elements-over s c k h o = tells-no (λ t. let l = t k h in omega arith)
+
+pub elements-all : (s : List ℕ) (c k : ℕ) → c ≤ k → ElementsTo s k → Tells (ElementsTo s c) true
+elements-all s c k h t = tells-yes (λ i l. t i (omega arith))
+
+pub elements-again : (s : List ℕ) (k : ℕ) → ElementsTo s k → getD s k 0 ≤ 63 → ElementsTo s (k + 1)
+elements-again s k t h = below-more (λ i. getD s i 0 < 64) k t (omega arith)
+
+-- sums that are no elements are those of no word
+pub not-elements : (s : List ℕ) (c e : ℕ) (m : Mended) (b : Bool) → Tells (ElementsTo s c) b → b ≡ false → Nothing m → MendsTo s c e m
+not-elements s c e m b t q n =
+    found-none s c e m n (λ w f. t .fails q (λ k l. subst (λ (v : ℕ). v < 64) (sym (f .sums k l)) (powerSum-lt (58 + k) w)))
+
+-- ---- sums that agree mend alike
+
+pub mends-same : (s t : List ℕ) (c e : ℕ) (m : Mended) → ((k : ℕ) → k < c → getD s k 0 ≡ getD t k 0) → MendsTo t c e m → MendsTo s c e m
+mends-same s t c e m h f =
+    record {
+      fits = λ q. let g = f .fits q in record { long = g .long; characters = g .characters; light = g .light; sums = λ k l. h k l ∙ g .sums k l };
+      weighs = f .weighs;
+      none = λ q w g. f .none q w (record { long = g .long; characters = g .characters; light = g .light; sums = λ k l. sym (h k l) ∙ g .sums k l });
+      no-weight = f .no-weight;
+      no-word = f .no-word;
+    }
+
+low-same : (c : ℕ) → c < 64 → c ≡ c % 64
+low-same c h = omega arith
+
+pub lowered-same : (s : List ℕ) (c k : ℕ) → c ≤ 11 → ElementsTo s c → k < c → getD s k 0 ≡ getD (lowered s) k 0
+unfolding lowered
+lowered-same s c k b t h = low-same (getD s k 0) (t k h) ∙ sym (listed-get (λ k. getD s k 0 % 64) 11 k (omega arith))
+
+-- ---- no error
+
+sums-zero : (h : Eleven) → h .first % 1152921504606846976 ≡ 0 → h .last % 64 ≡ 0 → Clear (eleven h)
+unfolding pack
+sums-zero h f l =
+    record {
+      zero = λ k b.
+          ⊎-elim (λ (g : 10 ≤ k). ap (λ (i : ℕ). getD (eleven h) i 0) (ten k g b) ∙ eleven-last h ∙ l)
+          (λ (g : k < 10). eleven-first h k g ∙ pack-equal 10 (lane (h .first)) (λ k. 0) (lane-lt (h .first)) (λ k. omega arith) (sym (pack-lanes 10 (h .first)) ∙ f) k g)
+          (le-or-lt 10 k);
+    }
+  where
+    ten : (k : ℕ) → 10 ≤ k → k < 11 → k ≡ 10
+    ten k g b = omega arith
+
+pub zero-not : (h : Eleven) → (h .first % 1152921504606846976 ≡ 0 → ⊥) → Tells (Clear (eleven h)) false
+unfolding pack
+zero-not h d =
+    tells-no (λ z.
+    d (pack-lanes 10 (h .first) ∙ pack-same 10 (lane (h .first)) (λ k. 0) (λ k b. sym (eleven-first h k b) ∙ z .zero k (omega arith))))
+
+pub last-not : (h : Eleven) → (h .last % 64 ≡ 0 → ⊥) → Tells (Clear (eleven h)) false
+last-not h d = tells-no (λ z. d (sym (eleven-last h) ∙ z .zero 10 (omega arith)))
+
+pub zero-all : (h : Eleven) → h .first % 1152921504606846976 ≡ 0 → h .last % 64 ≡ 0 → Tells (Clear (eleven h)) true
+zero-all h f l = tells-yes (sums-zero h f l)
+
+nothing-fits : (s : List ℕ) (e : ℕ) → Clear s → Fits s 11 e (replicate 63 0)
+nothing-fits s e z =
+    record {
+      long = refl;
+      characters = λ a. subst (λ (v : ℕ). v < 64) (sym (zero-get 63 a)) (omega arith);
+      light = le-trans (le-of-eq (weight-nothing 63)) (omega arith);
+      sums = λ k l. z .zero k l ∙ sym (sums-nothing (58 + k));
+    }
+
+-- ---- the ways out of the repair
+
+pub repairs-none : (s w : List ℕ) (e : ℕ) (m : Mended) (b : Bool) → Tells (Clear s) b → b ≡ true → m .found ≡ true → m .weight ≡ 0 → m .word ≡ added w (replicate 63 0) → Repairs s w e m
+repairs-none s w e m b t q f n r =
+    record {
+      repaired = λ _. record { errors = replicate 63 0; fits = nothing-fits s e (t .holds q); weighs = n ∙ sym (weight-nothing 63); word = r };
+      none = λ z. absurd (true-false (sym f ∙ z));
+      no-weight = λ z. absurd (true-false (sym f ∙ z));
+      no-word = λ z. absurd (true-false (sym f ∙ z));
+    }
+
+lighter : (s : List ℕ) (e : ℕ) (w : List ℕ) → 0 < e → Fits s 11 1 w → Fits s 11 e w
+lighter s e w h f = record { long = f .long; characters = f .characters; light = (let l = f .light in omega arith); sums = f .sums }
+
+pub repairs-one : (s w r : List ℕ) (e : ℕ) (o : Single) → 0 < e → OneError s o → o .found ≡ true → r ≡ added w (lone (o .address) (o .value))
+    → Repairs s w e (record { found = true; weight = 1; word = r })
+repairs-one s w r e o h a q g =
+    record {
+      repaired = λ _.
+          record {
+            errors = lone (o .address) (o .value);
+            fits = lighter s e (lone (o .address) (o .value)) h (a .fits q);
+            weighs = sym (lone-weight (o .address) (o .value) (a .inside q) (a .some q));
+            word = g;
+          };
+      none = λ z. absurd (true-false z);
+      no-weight = λ z. absurd (true-false z);
+      no-word = λ z. absurd (true-false z);
+    }
+
+pub repairs-not : (s w : List ℕ) (e : ℕ) (f m : Mended) → MendsTo s 11 e f → f .found ≡ false → Nothing m → Repairs s w e m
+repairs-not s w e f m a q n =
+    record {
+      repaired = λ t. absurd (true-false (sym t ∙ n .not-found));
+      none = λ _. a .none q;
+      no-weight = λ _. n .no-weight;
+      no-word = λ _. n .no-word;
+    }
+
+pub repairs-more : (s w r : List ℕ) (e : ℕ) (f : Mended) → MendsTo s 11 e f → f .found ≡ true → r ≡ added w (f .word)
+    → Repairs s w e (record { found = true; weight = f .weight; word = r })
+repairs-more s w r e f a q g =
+    record {
+      repaired = λ _. record { errors = f .word; fits = a .fits q; weighs = a .weighs q; word = g };
+      none = λ z. absurd (true-false z);
+      no-weight = λ z. absurd (true-false z);
+      no-word = λ z. absurd (true-false z);
+    }
+
+-- ---- one character changed
+
+pub one-changed : (w r : List ℕ) (a v : ℕ) → length w ≡ 63 → a < 63 → r ≡ added w (replicate 63 0) → set r a (bitXor (getD r a 0) v) ≡ added w (lone a v)
+unfolding sum
+one-changed w r a v l h e =
+    let lr : length r ≡ 63 = ap length e ∙ length-added w (replicate 63 0) l ∙ l in
+    let ll : length w ≡ length (lone a v) = l ∙ sym (lone-long a v) in
+    ext-getD 0 (set r a (bitXor (getD r a 0) v)) (added w (lone a v)) (length-set r a (bitXor (getD r a 0) v) ∙ lr ∙ sym (length-added w (lone a v) ll ∙ l))
+    (λ i b.
+    ⊎-elim
+    (λ (q : i ≡ a).
+    subst (λ (j : ℕ). getD (set r a (bitXor (getD r a 0) v)) j 0 ≡ getD (added w (lone a v)) j 0) (sym q)
+    (getD-set-same r a (bitXor (getD r a 0) v) 0 (omega arith) ∙ ap₂ bitXor (was a) (sym (lone-here a v h)) ∙ sym (added-get w (lone a v) ll a)))
+    (λ (d : i ≡ a → ⊥).
+    getD-set-other r a i (bitXor (getD r a 0) v) 0 d ∙ was i ∙ sym (added-get w (lone a v) ll i ∙ ap (sum (getD w i 0)) (lone-other a v i d) ∙ Laws.sum-zero (getD w i 0)))
+    (same-or-not i a))
+  where
+    was : (i : ℕ) → getD r i 0 ≡ getD w i 0
+    was i = ap (λ (t : List ℕ). getD t i 0) e ∙ added-get w (replicate 63 0) l i ∙ ap (sum (getD w i 0)) (zero-get 63 i) ∙ Laws.sum-zero (getD w i 0)
+
+-- ---- the nearest word
+
+pub near : (w u s d : List ℕ) (e : ℕ) (b : Bool) (m : Mended) → length w ≡ 63 → Tells (Characters w) b → b ≡ true → PowerSums w u → length s ≡ 11 → d ≡ added u s
+    → Repairs d w e m → Nearest (HasSums s) w e m
+near w u s d e b m l t q us ls ed r = pick (m .found) refl
+  where
+    pick : (f : Bool) → m .found ≡ f → Nearest (HasSums s) w e m
+    pick true z =
+        let y = r .repaired z in
+        let n = one-near w u s d e b l t q us ls ed (record { found = true; weight = m .weight; word = y .errors }) (m .word) (found-fits d 11 e (m .weight) (y .errors) (y .fits) (y .weighs)) refl (y .word) in
+        record {
+          of-word = λ _. n .of-word refl;
+          is = λ _. n .is refl;
+          apart = λ _. n .apart refl;
+          within = λ _. n .within refl;
+          none = λ c. absurd (true-false (sym z ∙ c));
+          no-weight = λ c. absurd (true-false (sym z ∙ c));
+          no-word = λ c. absurd (true-false (sym z ∙ c));
+        }
+    pick false z =
+        let o : Nothing m = record { not-found = z; no-weight = r .no-weight z; no-word = r .no-word z } in
+        none-near w u s d e b l t q us ls ed m m
+        (record { fits = λ c. absurd (true-false (sym c ∙ z)); weighs = λ c. absurd (true-false (sym c ∙ z)); none = λ _. r .none z; no-weight = λ _. r .no-weight z; no-word = λ _. r .no-word z })
+        z o
+
+pub not-wanted : (w s : List ℕ) (e : ℕ) (m : Mended) (b : Bool) → Tells (ElementsTo s 11) b → b ≡ false → Nothing m → Nearest (HasSums s) w e m
+not-wanted w s e m b t q n =
+    nearest-none (HasSums s) w e m n (λ y v p l. t .fails q (λ k h. subst (λ (x : ℕ). x < 64) (p .sums k h) (powerSum-lt (58 + k) v)))
+
+-- the sums wanted, packed, are those sums
+pub packed-same : (s : List ℕ) (h : Eleven) (b : Bool) → length s ≡ 11 → Tells (ElementsTo s 11) b → b ≡ true → eleven h ≡ lowered s → eleven h ≡ s
+packed-same s h b l t q e =
+    ext-getD 0 (eleven h) s (eleven-long h ∙ sym l)
+    (λ k i. ap (λ (u : List ℕ). getD u k 0) e ∙ sym (lowered-same s 11 k (omega arith) (t .holds q) (omega (arith, eleven-long h))))
+
+-- ---- the sixth window
+
+window : (h : Eleven) (k : ℕ) → ℕ
+window h k = getD (eleven h) (5 + k) 0
+
+window-past : (h : Eleven) (k : ℕ) → 6 ≤ k → window h k ≡ 0
+unfolding window
+window-past h k g = List·getD-eq-default (eleven h) 0 (le-trans (le-of-eq (eleven-long h)) (omega arith))
+
+window-is : (h : Eleven) → h .first / 1073741824 % 1073741824 + h .last % 64 * 1073741824 ≡ pack 10 (window h)
+unfolding window
+window-is h =
+    ap₂ (λ (a b : ℕ). a + b * 1073741824)
+    (pack-lanes 5 (h .first / 1073741824)
+    ∙ pack-same 5 (lane (h .first / 1073741824)) (λ k. getD (eleven h) (5 + k) 0) (λ k l. lane-after (h .first) 5 k ∙ sym (eleven-first h (5 + k) (omega arith))))
+    (sym (eleven-last h))
+    ∙ sym (pack-last 5 (λ k. getD (eleven h) (5 + k) 0))
+    ∙ sym (pack-more 6 (window h) (window-past h 6 (omega arith))) ∙ sym (pack-more 7 (window h) (window-past h 7 (omega arith)))
+    ∙ sym (pack-more 8 (window h) (window-past h 8 (omega arith))) ∙ sym (pack-more 9 (window h) (window-past h 9 (omega arith)))
+
+total-six : (f : ℕ → ℕ) → ((k : ℕ) → 6 ≤ k → f k ≡ 0) → total 10 f ≡ total 6 f
+unfolding total
+total-six f z =
+    let t : ℕ = sum (sum (sum (sum (sum (sum 0 (f 0)) (f 1)) (f 2)) (f 3)) (f 4)) (f 5) in
+    ap₂ sum (ap₂ sum (ap₂ sum (ap (sum t) (z 6 (omega arith)) ∙ Laws.sum-zero t) (z 7 (omega arith)) ∙ Laws.sum-zero t) (z 8 (omega arith)) ∙ Laws.sum-zero t) (z 9 (omega arith)) ∙ Laws.sum-zero t
+
+sixth-is : (x : ℕ) (h : Eleven) (y p v : ℕ) → y ≡ h .first / 1073741824 % 1073741824 + h .last % 64 * 1073741824
+    → p ≡ pack 10 (λ k. product (lane (x / 1073741824) k) (lane y k)) → v ≡ total 10 (lane p) → v ≡ sixth x (eleven h)
+unfolding sixth window
+sixth-is x h y p v ey ep ev =
+    ev
+    ∙ total-same 10 (lane p) (λ k. product (lane x (5 + k)) (window h k))
+    (λ k l.
+    ap (λ (q : ℕ). lane q k) ep ∙ lane-pack 10 (λ k. product (lane (x / 1073741824) k) (lane y k)) (λ k. Laws.product-lt (lane (x / 1073741824) k) (lane y k)) k l
+    ∙ ap₂ product (lane-after x 5 k) (ap (λ (q : ℕ). lane q k) (ey ∙ window-is h) ∙ lane-pack 10 (window h) (λ k. eleven-characters h (5 + k)) k l))
+    ∙ total-six (λ k. product (lane x (5 + k)) (window h k)) (λ k g. ap (product (lane x (5 + k))) (window-past h k g) ∙ Laws.product-zero (lane x (5 + k)))
+
+pub sixth-not : (x : ℕ) (h : Eleven) (p v : ℕ)
+    → p ≡ pack 10 (λ k. product (lane (x / 1073741824) k) (lane (h .first / 1073741824 % 1073741824 + h .last % 64 * 1073741824) k)) → v ≡ total 10 (lane p)
+    → (v ≡ 0 → ⊥) → Tells (sixth x (eleven h) ≡ 0) false
+sixth-not x h p v ep ev d = tells-no (λ z. d (sixth-is x h (h .first / 1073741824 % 1073741824 + h .last % 64 * 1073741824) p v refl ep ev ∙ z))
+
+pub sixth-zero : (x : ℕ) (h : Eleven) (p v : ℕ)
+    → p ≡ pack 10 (λ k. product (lane (x / 1073741824) k) (lane (h .first / 1073741824 % 1073741824 + h .last % 64 * 1073741824) k)) → v ≡ total 10 (lane p)
+    → v ≡ 0 → Tells (sixth x (eleven h) ≡ 0) true
+sixth-zero x h p v ep ev z = tells-yes (sym (sixth-is x h (h .first / 1073741824 % 1073741824 + h .last % 64 * 1073741824) p v refl ep ev) ∙ z)
+
+-- ---- eleven sums, packed
+
+pub mended-eleven : (s : List ℕ) (e x : ℕ) (m : Mended) → x ≡ min e 5 → MendsTo s 11 x m → Mends s 11 e m
+mended-eleven s e x m q f = subst (λ (k : ℕ). MendsTo s 11 k m) q f

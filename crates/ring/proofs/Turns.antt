@@ -4,6 +4,7 @@ use mathlib.Core.Bool.{Bool, true, false, cond}
 use mathlib.Core.Logic.{⊎-elim}
 use mathlib.Core.List.{List, [], _∷_, _++_, append-nil, append-assoc}
 use Prim.Native.Nat.{ℕ, suc, _+_, _-_, _*_, _%_, _<_, _≤_}
+use native.Mathlib.Nat.{mod-eq-of-lt}
 use native.Mathlib.Numerals.{add-one}
 use native.Mathlib.Omega.{arith}
 use lib.ListN.{length, getD, set, drop, length-append, length-set}
@@ -14,8 +15,13 @@ use Rattle.numbers.proofs.Cases.{le-or-lt}
 use Rattle.refusal.specs.Promise.{Tells}
 use Rattle.field.specs.Field.{sum, timesX, shifted, product, α, power}
 use Rattle.field.proofs.Laws
+use Rattle.lanes.specs.Lanes.{pack, lane}
+use Rattle.lanes.proofs.Laws.{lane-pack}
 use Rattle.code.specs.Word.{added, marks}
 use Rattle.code.specs.Inside.{PowerSums}
+use Rattle.code.specs.declared.Eleven.{Eleven}
+use Rattle.code.specs.Held.{eleven}
+use Rattle.code.proofs.Holding.{eleven-long, eleven-first, eleven-last}
 use Rattle.code.proofs.Words.{same-word}
 use Rattle.code.proofs.Turning.{turned-get, reversed-get}
 use Rattle.mender.specs.declared.Mended.{Mended}
@@ -32,52 +38,42 @@ use Rattle.ring.proofs.Starts.{start-told}
 pub mend-told : (s : List ℕ) (t : ℕ) (m : Mended) → Mends s 11 t m → Tells (Mendable s t) (m .found)
 mend-told s t m p = record { holds = λ e. (m .word, p .fits e); fails = λ e x. p .none e (x .0) (x .1) }
 
--- ---- the sums of a word turned back by one character: x is the power of α for the next
+-- ---- the sums of a word turned back by one character
 
-pub record TurnedTo (sums r : List ℕ) (x i : ℕ) : Type 0 where
-  pub most : i ≤ 11
-  pub long : length r ≡ 11
-  pub next : x ≡ power α ((58 + i) * 62)
-  pub done : (k : ℕ) → k < i → getD r k 0 ≡ product (getD sums k 0) (power α ((58 + k) * 62))
-  pub rest : (k : ℕ) → i ≤ k → getD r k 0 ≡ getD sums k 0
+-- the powers of α by which they are multiplied, in lanes and beside them
+powers : 1115140155881063456 ≡ pack 10 (λ i. power α ((58 + i) * 62 % 63))
+unfolding pack power product shifted timesX sum
+powers = refl
 
-fifth-power : power α 5 ≡ 32
-unfolding power product shifted timesX sum
-fifth-power = refl
-
-last-power : power α 62 ≡ 33
+last-power : 63 ≡ power α (68 * 62 % 63)
 unfolding power product shifted timesX sum
 last-power = refl
 
-pub turned-none : (sums : List ℕ) → length sums ≡ 11 → TurnedTo sums sums 32 0
-turned-none sums h =
+pub turned-sums : (h : Eleven) (p v : ℕ) → p ≡ pack 10 (λ k. product (lane (h .first) k) (lane 1115140155881063456 k)) → v ≡ product (h .last) 63
+    → TurnedBack (eleven h) (eleven (record { first = p; last = v }))
+turned-sums h p v ep ev =
     record {
-      most = omega arith;
-      long = h;
-      next = sym fifth-power ∙ Laws.power-mod 3596;
-      done = below-none (λ k. getD sums k 0 ≡ product (getD sums k 0) (power α ((58 + k) * 62)));
-      rest = λ k l. refl;
+      long = eleven-long (record { first = p; last = v });
+      entry = λ i b.
+          ⊎-elim (λ (g : 10 ≤ i). subst (λ (k : ℕ). getD (eleven (record { first = p; last = v })) k 0 ≡ product (getD (eleven h) k 0) (power α ((58 + k) * 62))) (ten i g b) last)
+          (λ (g : i < 10). first i g) (le-or-lt 10 i);
     }
+  where
+    ten : (i : ℕ) → 10 ≤ i → i < 11 → 10 ≡ i
+    ten i g b = omega arith
 
-next-power : (i x y : ℕ) → x ≡ power α ((58 + i) * 62) → y ≡ product x 33 → y ≡ power α ((58 + (i + 1)) * 62)
-next-power i x y e f =
-    f ∙ ap₂ product e (sym last-power) ∙ sym (Laws.power-add α ((58 + i) * 62) 62) ∙ ap (power α) (omega arith)
+    first : (i : ℕ) → i < 10 → getD (eleven (record { first = p; last = v })) i 0 ≡ product (getD (eleven h) i 0) (power α ((58 + i) * 62))
+    first i g =
+        eleven-first (record { first = p; last = v }) i g ∙ ap (λ (q : ℕ). lane q i) ep
+        ∙ lane-pack 10 (λ k. product (lane (h .first) k) (lane 1115140155881063456 k)) (λ k. Laws.product-lt (lane (h .first) k) (lane 1115140155881063456 k)) i g
+        ∙ ap₂ product (sym (eleven-first h i g))
+        (ap (λ (q : ℕ). lane q i) powers ∙ lane-pack 10 (λ i. power α ((58 + i) * 62 % 63)) (λ i. Laws.power-lt α ((58 + i) * 62 % 63)) i g ∙ Laws.power-mod ((58 + i) * 62))
 
-pub turned-again : (sums r : List ℕ) (x i v y : ℕ) → TurnedTo sums r x i → i < 11 → v ≡ product (getD r i 0) x → y ≡ product x 33
-    → TurnedTo sums (set r i v) y (i + 1)
-turned-again sums r x i v y t h e f =
-    record {
-      most = omega arith;
-      long = length-set r i v ∙ t .long;
-      next = next-power i x y (t .next) f;
-      done = below-more (λ k. getD (set r i v) k 0 ≡ product (getD sums k 0) (power α ((58 + k) * 62))) i
-          (λ k b. getD-set-other r i k v 0 (λ q. omega arith) ∙ t .done k b)
-          (getD-set-same r i v 0 (let l = t .long in omega arith) ∙ e ∙ ap₂ product (t .rest i (omega arith)) (t .next));
-      rest = λ k b. getD-set-other r i k v 0 (λ q. omega arith) ∙ t .rest k (omega arith);
-    }
-
-pub turned-all : (sums r : List ℕ) (x i : ℕ) → TurnedTo sums r x i → 11 ≤ i → TurnedBack sums r
-turned-all sums r x i t h = record { long = t .long; entry = λ k l. t .done k (omega arith) }
+    last : getD (eleven (record { first = p; last = v })) 10 0 ≡ product (getD (eleven h) 10 0) (power α (68 * 62))
+    last =
+        eleven-last (record { first = p; last = v }) ∙ ap (λ (n : ℕ). n % 64) ev ∙ mod-eq-of-lt (Laws.product-lt (h .last) 63)
+        ∙ ap (product (h .last)) (last-power ∙ Laws.power-mod (68 * 62)) ∙ sym (Laws.product-low (h .last) (power α (68 * 62)))
+        ∙ ap (λ (n : ℕ). product n (power α (68 * 62))) (sym (eleven-last h))
 
 -- ---- the word at a start
 

@@ -6,15 +6,17 @@ ghost use lib.ListN.{length};
 ghost use Rattle.refusal.specs.Promise.{Tells};
 ghost use Rattle.code.specs.Word.{added, marks, reversed};
 ghost use Rattle.code.specs.Inside.{PowerSums};
+ghost use Rattle.code.specs.Held.{eleven};
 ghost use Rattle.ring.specs.Ring.{placed};
 ghost use Rattle.ring.specs.Promises.{listingNumbers, readingNumbers, Lists, ListsRing, ReadsRing};
 ghost use Rattle.ring.specs.Inside.{MarkSums, TurnedBack, Listable, Mendable, placeOf};
+use code::Eleven;
 use refusal::Refusal;
 
-// The powers 5 and -1 of α.
-const FIFTH_POWER: u8 = 32;
+// The powers 5, 4, .., -4 of α, in lanes, and the power -5: what turns the eleven power sums back by one character.
+const POWERS_BACK: u64 = 1115140155881063456;
 
-const POWER_BACK: u8 = 33;
+const LAST_POWER_BACK: u8 = 63;
 
 pub enum RingListing {
     Listed { count: u8 },
@@ -94,12 +96,12 @@ fn list_starts(ring: &[u8], radius: u8, output: &mut [u8]) -> u8
     requires { ⌜ Listable (now ring) radius (length (now output)) ⌝ }
     ensures { λ r. ⌜ Lists (now (ring .entry)) radius (now (output .entry)) (r ∷ []) (now (output .exit)) ⌝ }
 {
-    let sums = code::power_sums(ring);
-    let mut marks = code::mark_sums();
+    let sums = code::eleven_sums(ring);
+    let mut marks = forward_marks();
     let mut count: u8 = 0;
     let mut start: u8 = 0;
     while start < 126 {
-        let listed = mendable(mender::sums_added(sums, marks), radius);
+        let listed = mendable(code::eleven_added(sums, marks), radius);
         let after = next_marks(marks, start);
         marks = after;
         if listed {
@@ -120,17 +122,17 @@ fn no_starts() -> [u8; 126]
 }
 
 // Whether some errors, as many as the radius at most, have these power sums: the radius counts up to 5.
-fn mendable(sums: [u8; 11], radius: u8) -> bool
-    ensures { λ r. ⌜ Tells (Mendable sums radius) r ⌝ }
+fn mendable(sums: Eleven, radius: u8) -> bool
+    ensures { λ r. ⌜ Tells (Mendable (eleven sums) radius) r ⌝ }
 {
-    let errors = mender::mend(sums, 11, radius as usize);
+    let errors = mender::mend_eleven(sums, radius as usize);
     errors.found
 }
 
 // The power sums of the marks at the start after this one: they are turned back by one character, but the first backward start has its own.
-fn next_marks(marks: [u8; 11], start: u8) -> [u8; 11]
-    requires { ⌜ MarkSums start marks ⌝ }
-    ensures { λ r. ⌜ MarkSums (start + 1) r ⌝ }
+fn next_marks(marks: Eleven, start: u8) -> Eleven
+    requires { ⌜ MarkSums start (eleven marks) ⌝ }
+    ensures { λ r. ⌜ MarkSums (start + 1) (eleven r) ⌝ }
 {
     if start == 62 {
         return backward_marks();
@@ -138,26 +140,34 @@ fn next_marks(marks: [u8; 11], start: u8) -> [u8; 11]
     turned_back(marks)
 }
 
+// The power sums of the marks.
+fn forward_marks() -> Eleven
+    ensures { λ r. ⌜ PowerSums marks (eleven r) ⌝ }
+{
+    code::packed(code::mark_sums())
+}
+
 // The power sums of the marks read backward from place 0.
-fn backward_marks() -> [u8; 11]
+fn backward_marks() -> Eleven
+    ensures { λ r. ⌜ PowerSums (reversed 0 marks) (eleven r) ⌝ }
+{
+    code::packed(backward_sums())
+}
+
+fn backward_sums() -> [u8; 11]
     ensures { λ r. ⌜ PowerSums (reversed 0 marks) r ⌝ }
 {
     [57, 16, 45, 19, 39, 41, 16, 29, 1, 33, 29]
 }
 
 // The power sums of a word turned back by one character: each S_j times α^-j, from j = -5 on.
-fn turned_back(sums: [u8; 11]) -> [u8; 11]
-    ensures { λ r. ⌜ TurnedBack sums r ⌝ }
+fn turned_back(sums: Eleven) -> Eleven
+    ensures { λ r. ⌜ TurnedBack (eleven sums) (eleven r) ⌝ }
 {
-    let mut r = sums;
-    let mut x = FIFTH_POWER;
-    let mut i: usize = 0;
-    while i < 11 {
-        r[i] = field::times(r[i], x);
-        x = field::times(x, POWER_BACK);
-        i += 1;
+    Eleven {
+        first: lanes::products(sums.first, POWERS_BACK),
+        last: field::times(sums.last, LAST_POWER_BACK),
     }
-    r
 }
 
 // The word at a start.

@@ -35,14 +35,7 @@ pub fn is_line(word: &[u8]) -> bool
 pub fn in_range(word: &[u8]) -> bool
     ensures { λ r. ⌜ Tells (Characters (now (word .entry))) r ⌝ }
 {
-    let mut a = 0;
-    while a < word.len() {
-        if word[a] > 63 {
-            return false;
-        }
-        a += 1;
-    }
-    true
+    eights::all_low(word)
 }
 
 // The eleven power sums, S_-5 first, of the first 63 characters. What the word lacks of them counts as 0, and of each the low six bits count.

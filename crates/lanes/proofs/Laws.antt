@@ -77,6 +77,22 @@ pack-last (suc n) f =
     ∙ add-right-comm (pack n (λ k. f (suc k)) * 64) (f (suc n) * 64 ^ n * 64) (f 0)
     ∙ ap (λ (a : ℕ). pack n (λ k. f (suc k)) * 64 + f 0 + a) (mul-assoc (f (suc n)) (64 ^ n) 64 ∙ ap (λ (a : ℕ). f (suc n) * a) (sym (pow-suc 64 n)))
 
+-- the lanes from m on apart
+pub pack-split : (m n : ℕ) (f : ℕ → ℕ) → pack (m + n) f ≡ pack m f + pack n (λ k. f (m + k)) * 64 ^ m
+unfolding pack
+pack-split zero n f =
+    ap (λ (k : ℕ). pack k f) (zero-add n) ∙ pack-same n f (λ k. f (0 + k)) (λ k l. ap f (sym (zero-add k)))
+    ∙ sym (zero-add (pack n (λ k. f (0 + k)) * 1) ∙ mul-one (pack n (λ k. f (0 + k))))
+pack-split (suc m) n f =
+    ap (λ (k : ℕ). pack k f) (suc-add m n)
+    ∙ ap (λ (a : ℕ). a * 64 + f 0)
+    (pack-split m n (λ k. f (suc k))
+    ∙ ap (λ (a : ℕ). pack m (λ k. f (suc k)) + a * 64 ^ m) (pack-same n (λ k. f (suc (m + k))) (λ k. f (suc m + k)) (λ k l. ap f (sym (suc-add m k)))))
+    ∙ ap (λ (a : ℕ). a + f 0) (add-mul (pack m (λ k. f (suc k))) (pack n (λ k. f (suc m + k)) * 64 ^ m) 64)
+    ∙ add-right-comm (pack m (λ k. f (suc k)) * 64) (pack n (λ k. f (suc m + k)) * 64 ^ m * 64) (f 0)
+    ∙ ap (λ (a : ℕ). pack m (λ k. f (suc k)) * 64 + f 0 + a)
+    (mul-assoc (pack n (λ k. f (suc m + k))) (64 ^ m) 64 ∙ ap (λ (a : ℕ). pack n (λ k. f (suc m + k)) * a) (sym (pow-suc 64 m)))
+
 -- numbers of n lanes that agree in each are the same
 pub pack-equal : (n : ℕ) (f g : ℕ → ℕ) → ((k : ℕ) → f k < 64) → ((k : ℕ) → g k < 64) → pack n f ≡ pack n g → (k : ℕ) → k < n → f k ≡ g k
 pack-equal n f g hf hg e k l = sym (lane-pack n f hf k l) ∙ ap (λ (p : ℕ). lane p k) e ∙ lane-pack n g hg k l

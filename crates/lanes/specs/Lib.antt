@@ -1,0 +1,2 @@
+-- Elements packed in lanes of one number.
+pub mod Lanes

@@ -1,0 +1,72 @@
+// Ten elements at once, in six-bit lanes of one number: x times each, each times one element, and lane by lane.
+ghost use mathlib.Core.Path.{_≡_};
+ghost use Rattle.field.specs.Field.{timesX, product, total};
+ghost use Rattle.lanes.specs.Lanes.{pack, lane};
+
+// In each of ten lanes 1, 31, 32 and 62.
+const ONES: u64 = 18300341342965825;
+
+const LOW_BITS: u64 = 567310581631940575;
+
+const HIGH_BITS: u64 = 585610922974906400;
+
+const ALL_BUT_LOWEST: u64 = 1134621163263881150;
+
+// The least number that ten lanes do not hold.
+const TEN_LANES: u64 = 1152921504606846976;
+
+// x times each of ten lanes.
+pub fn doubled(p: u64) -> u64
+    ensures { λ r. ⌜ r ≡ pack 10 (λ k. timesX (lane p k)) ⌝ }
+{
+    ((p & LOW_BITS) * 2) ^ ((p & HIGH_BITS) / 32 * 3)
+}
+
+// Each of ten lanes times one element, by shift and add on all of them at once.
+pub fn scale(p: u64, f: u8) -> u64
+    ensures { λ r. ⌜ r ≡ pack 10 (λ k. product (lane p k) f) ⌝ }
+{
+    let mut a = p % TEN_LANES;
+    let mut b = f;
+    let mut s: u64 = 0;
+    let mut i: usize = 0;
+    while i < 6 {
+        s = s ^ ((b % 2) as u64 * a);
+        a = doubled(a);
+        b = b / 2;
+        i += 1;
+    }
+    s
+}
+
+// Ten products, lane by lane: the lowest bit of each lane of b, spread over the lane, chooses that lane of a.
+pub fn products(p: u64, q: u64) -> u64
+    ensures { λ r. ⌜ r ≡ pack 10 (λ k. product (lane p k) (lane q k)) ⌝ }
+{
+    let mut a = p % TEN_LANES;
+    let mut b = q % TEN_LANES;
+    let mut s: u64 = 0;
+    let mut i: usize = 0;
+    while i < 6 {
+        s = s ^ (((b & ONES) * 63) & a);
+        a = doubled(a);
+        b = (b & ALL_BUT_LOWEST) / 2;
+        i += 1;
+    }
+    s
+}
+
+// The sum of ten lanes.
+pub fn sum_of(p: u64) -> u8
+    ensures { λ r. ⌜ r ≡ total 10 (lane p) ⌝ }
+{
+    let mut q = p;
+    let mut s: u8 = 0;
+    let mut i: usize = 0;
+    while i < 10 {
+        s = s ^ (q % 64) as u8;
+        q = q / 64;
+        i += 1;
+    }
+    s
+}

@@ -4,3 +4,4 @@ pub mod Fitting
 pub mod Turns
 pub mod Finding
 pub mod Theorems
+pub mod Rows

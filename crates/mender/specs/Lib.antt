@@ -1,3 +1,4 @@
 -- What mending promises, and what its inner functions promise each other.
 pub mod Mender
 pub mod Inside
+pub mod Rows

@@ -1,0 +1,36 @@
+-- `mender::coefficients` meets its contract: TODO.
+use borrow.Author.Needs.{needs}
+use Rattle.mender.proofs.coefficients.Statement.{statement}
+use Rattle.mender.proofs.coefficients.Tie as tie
+
+abbrev Inv-loop : tie.InvT-loop
+Inv-loop x p₀ q₀ k₀ p q k = ?
+
+abbrev μ-loop : tie.MeasureT-loop
+μ-loop x p₀ q₀ k₀ p q k = ?
+
+loop-holds : tie.Need-loop-holds Inv-loop μ-loop
+loop-holds c = search needs
+
+cast-p : tie.Need-cast-p Inv-loop μ-loop
+cast-p c = search needs
+
+array-write-p : tie.Need-array-write-p Inv-loop μ-loop
+array-write-p c = search needs
+
+add-k : tie.Need-add-k Inv-loop μ-loop
+add-k c = search needs
+
+loop-less : tie.Need-loop-less Inv-loop μ-loop
+loop-less c = search needs
+
+loop-again : tie.Need-loop-again Inv-loop μ-loop
+loop-again c = search needs
+
+returns : tie.Need-returns Inv-loop μ-loop
+returns c = search needs
+
+pub coefficients-spec : {M : Type 1} → statement M
+coefficients-spec =
+    tie.close
+    (tie.spec Inv-loop μ-loop loop-holds cast-p array-write-p add-k loop-less loop-again returns)

@@ -1,0 +1,17 @@
+-- `mender::multiples` meets its contract: TODO.
+use borrow.Author.Needs.{needs}
+use borrow.Author.Needs.{needs}
+use Rattle.mender.proofs.multiples.Statement.{statement}
+use Rattle.mender.proofs.multiples.Tie as tie
+
+scale-requires : tie.Need-scale-requires
+scale-requires c κs = search needs
+
+scale-requires-2 : tie.Need-scale-requires-2
+scale-requires-2 c κs = search needs
+
+returns : tie.Need-returns
+returns c = search needs
+
+pub multiples-spec : {M : Type 1} → statement M
+multiples-spec = tie.close (tie.spec scale-requires scale-requires-2 returns)

@@ -1,0 +1,53 @@
+-- `mender::pivot_row` meets its contract: TODO.
+use borrow.Author.Needs.{needs}
+use Rattle.mender.proofs.pivot_row.Statement.{statement}
+use Rattle.mender.proofs.pivot_row.Tie as tie
+
+abbrev Inv-loop : tie.InvT-loop
+Inv-loop j x i₀ i = ?
+
+abbrev μ-loop : tie.MeasureT-loop
+μ-loop j x i₀ i = ?
+
+loop-holds : tie.Need-loop-holds Inv-loop μ-loop
+loop-holds c = search needs
+
+mul-lane-of : tie.Need-mul-lane-of Inv-loop μ-loop
+mul-lane-of c = search needs
+
+array-read-lane-of : tie.Need-array-read-lane-of Inv-loop μ-loop
+array-read-lane-of c = search needs
+
+lane-of-requires : tie.Need-lane-of-requires Inv-loop μ-loop
+lane-of-requires c κs = search needs
+
+returns : tie.Need-returns Inv-loop μ-loop
+returns c = search needs
+
+add-i : tie.Need-add-i Inv-loop μ-loop
+add-i c = search needs
+
+loop-less : tie.Need-loop-less Inv-loop μ-loop
+loop-less c = search needs
+
+loop-again : tie.Need-loop-again Inv-loop μ-loop
+loop-again c = search needs
+
+returns-2 : tie.Need-returns-2 Inv-loop μ-loop
+returns-2 c = search needs
+
+pub pivot-row-spec : {M : Type 1} → statement M
+pivot-row-spec =
+    tie.close
+    (tie.spec
+    Inv-loop
+    μ-loop
+    loop-holds
+    mul-lane-of
+    array-read-lane-of
+    lane-of-requires
+    returns
+    add-i
+    loop-less
+    loop-again
+    returns-2)

@@ -1,0 +1,53 @@
+-- `mender::unit_rows` meets its contract: TODO.
+use borrow.Author.Needs.{needs}
+use Rattle.mender.proofs.unit_rows.Statement.{statement}
+use Rattle.mender.proofs.unit_rows.Tie as tie
+
+abbrev Inv-loop : tie.InvT-loop
+Inv-loop sums e x₀ q₀ one₀ i₀ x q one i = ?
+
+abbrev μ-loop : tie.MeasureT-loop
+μ-loop sums e x₀ q₀ one₀ i₀ x q one i = ?
+
+loop-holds : tie.Need-loop-holds Inv-loop μ-loop
+loop-holds c = search needs
+
+mul-one : tie.Need-mul-one Inv-loop μ-loop
+mul-one c = search needs
+
+add-x : tie.Need-add-x Inv-loop μ-loop
+add-x c = search needs
+
+mul-x : tie.Need-mul-x Inv-loop μ-loop
+mul-x c = search needs
+
+array-write-x : tie.Need-array-write-x Inv-loop μ-loop
+array-write-x c = search needs
+
+add-i : tie.Need-add-i Inv-loop μ-loop
+add-i c = search needs
+
+loop-less : tie.Need-loop-less Inv-loop μ-loop
+loop-less c = search needs
+
+loop-again : tie.Need-loop-again Inv-loop μ-loop
+loop-again c = search needs
+
+returns : tie.Need-returns Inv-loop μ-loop
+returns c = search needs
+
+pub unit-rows-spec : {M : Type 1} → statement M
+unit-rows-spec =
+    tie.close
+    (tie.spec
+    Inv-loop
+    μ-loop
+    loop-holds
+    mul-one
+    add-x
+    mul-x
+    array-write-x
+    add-i
+    loop-less
+    loop-again
+    returns)

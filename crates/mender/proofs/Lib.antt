@@ -5,3 +5,4 @@ pub mod Turns
 pub mod Finding
 pub mod Theorems
 pub mod Rows
+pub mod RowTurns

@@ -30,7 +30,7 @@ use Rattle.mender.proofs.Fitting.{Least, row-least}
 
 -- ---- lanes
 
-pack-none : (n : ℕ) (f : ℕ → ℕ) → ((k : ℕ) → k < n → f k ≡ 0) → pack n f ≡ 0
+pub pack-none : (n : ℕ) (f : ℕ → ℕ) → ((k : ℕ) → k < n → f k ≡ 0) → pack n f ≡ 0
 unfolding pack
 pack-none zero f h = refl
 pack-none (suc n) f h =
@@ -60,7 +60,7 @@ lane-none : (t : ℕ) → lane 0 t ≡ 0
 lane-none t = ap (λ (p : ℕ). lane p t) (sym (pack-none (suc t) (λ k. 0) (λ k l. refl))) ∙ lane-pack (suc t) (λ k. 0) (λ k. omega arith) t (omega arith)
 
 -- the lanes after the first i
-lane-after : (q i t : ℕ) → lane (q / 64 ^ i) t ≡ lane q (i + t)
+pub lane-after : (q i t : ℕ) → lane (q / 64 ^ i) t ≡ lane q (i + t)
 lane-after q zero t = ap₂ lane (div-one q) (sym (zero-add t))
 lane-after q (suc i) t =
     ap (λ (m : ℕ). lane (q / m) t) (pow-succ' 64 i) ∙ ap (λ (m : ℕ). lane m t) (sym (div-div-eq-div-mul q 64 (64 ^ i)))

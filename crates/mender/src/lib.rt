@@ -390,7 +390,7 @@ fn pivot_row(x: [u64; 6], j: usize) -> usize
 
 // u divided by v, which is not 0, by logarithms. The last factor is 0 where u is 0, and else 1: a branch on u would become a jump by the table of logarithms.
 fn ratio(u: u8, v: u8) -> u8
-    requires { ⌜ v % 64 ≡ 0 → ⊥ ⌝ }
+    requires { ⌜ (v % 64 ≡ 0 → ⊥) ⌝ }
     ensures { λ r. ⌜ r ≡ product u (inverse v) ⌝ }
 {
     let l = places::log_of(u) + (63 - places::log_of(v));

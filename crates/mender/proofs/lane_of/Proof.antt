@@ -1,6 +1,6 @@
--- `mender::lane_of` meets its contract: TODO.
+-- `mender::lane_of` meets its contract: a shift by six bits for each lane before it.
 use borrow.Author.Needs.{needs}
-use borrow.Author.Needs.{needs}
+use Rattle.mender.proofs.RowTurns.{lane-shift}
 use Rattle.mender.proofs.lane_of.Statement.{statement}
 use Rattle.mender.proofs.lane_of.Tie as tie
 
@@ -14,7 +14,7 @@ cast-result : tie.Need-cast-result
 cast-result c = search needs
 
 returns : tie.Need-returns
-returns c = search needs
+returns c = search (lane-shift, needs)
 
 pub lane-of-spec : {M : Type 1} → statement M
 lane-of-spec = tie.close (tie.spec mul-result shr-result cast-result returns)

@@ -1,16 +1,19 @@
--- `mender::pivot_row` meets its contract: TODO.
+-- `mender::pivot_row` meets its contract: the rows passed so far combine the window to 0.
 use borrow.Author.Needs.{needs}
+use Prim.Native.Nat.{_≤_, _-_}
+use borrow.Author.Count.{below-none}
+use Rattle.mender.proofs.RowTurns.{QuietRows, quiet-rows-more, pivot-row-here, pivot-row-none}
 use Rattle.mender.proofs.pivot_row.Statement.{statement}
 use Rattle.mender.proofs.pivot_row.Tie as tie
 
 abbrev Inv-loop : tie.InvT-loop
-Inv-loop j x i₀ i = ?
+Inv-loop j x i₀ i = (i ≤ 6) × QuietRows x j i
 
 abbrev μ-loop : tie.MeasureT-loop
-μ-loop j x i₀ i = ?
+μ-loop j x i₀ i = 6 - i
 
 loop-holds : tie.Need-loop-holds Inv-loop μ-loop
-loop-holds c = search needs
+loop-holds c = search (below-none, needs)
 
 mul-lane-of : tie.Need-mul-lane-of Inv-loop μ-loop
 mul-lane-of c = search needs
@@ -22,7 +25,7 @@ lane-of-requires : tie.Need-lane-of-requires Inv-loop μ-loop
 lane-of-requires c κs = search needs
 
 returns : tie.Need-returns Inv-loop μ-loop
-returns c = search needs
+returns c = search (pivot-row-here, needs)
 
 add-i : tie.Need-add-i Inv-loop μ-loop
 add-i c = search needs
@@ -31,10 +34,10 @@ loop-less : tie.Need-loop-less Inv-loop μ-loop
 loop-less c = search needs
 
 loop-again : tie.Need-loop-again Inv-loop μ-loop
-loop-again c = search needs
+loop-again c = search (quiet-rows-more, needs)
 
 returns-2 : tie.Need-returns-2 Inv-loop μ-loop
-returns-2 c = search needs
+returns-2 c = search (pivot-row-none, needs)
 
 pub pivot-row-spec : {M : Type 1} → statement M
 pivot-row-spec =

@@ -1,22 +1,24 @@
--- `mender::unit_rows` meets its contract: TODO.
+-- `mender::unit_rows` meets its contract: the first i rows are set.
 use borrow.Author.Needs.{needs}
+use Prim.Native.Nat.{suc, _≤_, _-_}
+use Rattle.mender.proofs.RowTurns.{UnitRowsTo, unit-rows-none, one-mul, one-add, unit-rows-again, unit-rows-all}
 use Rattle.mender.proofs.unit_rows.Statement.{statement}
 use Rattle.mender.proofs.unit_rows.Tie as tie
 
 abbrev Inv-loop : tie.InvT-loop
-Inv-loop sums e x₀ q₀ one₀ i₀ x q one i = ?
+Inv-loop sums e x₀ q₀ one₀ i₀ x q one i = (i ≤ suc e) × UnitRowsTo sums x q one i
 
 abbrev μ-loop : tie.MeasureT-loop
-μ-loop sums e x₀ q₀ one₀ i₀ x q one i = ?
+μ-loop sums e x₀ q₀ one₀ i₀ x q one i = suc e - i
 
 loop-holds : tie.Need-loop-holds Inv-loop μ-loop
-loop-holds c = search needs
+loop-holds c = search (unit-rows-none, needs)
 
 mul-one : tie.Need-mul-one Inv-loop μ-loop
-mul-one c = search needs
+mul-one c = search (one-mul, needs)
 
 add-x : tie.Need-add-x Inv-loop μ-loop
-add-x c = search needs
+add-x c = search (one-add, needs)
 
 mul-x : tie.Need-mul-x Inv-loop μ-loop
 mul-x c = search needs
@@ -31,10 +33,10 @@ loop-less : tie.Need-loop-less Inv-loop μ-loop
 loop-less c = search needs
 
 loop-again : tie.Need-loop-again Inv-loop μ-loop
-loop-again c = search needs
+loop-again c = search (unit-rows-again, needs)
 
 returns : tie.Need-returns Inv-loop μ-loop
-returns c = search needs
+returns c = search (unit-rows-all, needs)
 
 pub unit-rows-spec : {M : Type 1} → statement M
 unit-rows-spec =

@@ -3,7 +3,7 @@ use mathlib.Core.Path.{_≡_, refl, sym, ap, ap₂, _∙_, subst}
 use mathlib.Core.Logic.{_⊎_, inl, inr, ⊎-elim}
 use mathlib.Core.List.{List, [], _∷_}
 use Prim.Native.Nat.{ℕ, zero, suc, min, _+_, _-_, _*_, _/_, _%_, _^_, _<_, _≤_}
-use native.Mathlib.Nat.{div-div-eq-div-mul, div-one, pow-suc, pow-succ', pow-le-pow-right, zero-add, add-zero, eq-or-lt-of-le, mod-eq-of-lt}
+use native.Mathlib.Nat.{div-div-eq-div-mul, div-one, pow-suc, pow-succ', pow-le-pow-right, zero-add, add-zero, eq-or-lt-of-le, mod-eq-of-lt, mul-zero, mul-one, mul-le-mul-left}
 use native.Mathlib.Numerals.{add-one}
 use native.Mathlib.Omega.{arith}
 use borrow.Author.Count.{below-more}
@@ -206,3 +206,174 @@ coefficients-again x p q k h a =
 
 pub coefficients-all : (x : ℕ) (p : List ℕ) (q k : ℕ) → 6 ≤ k → CoefficientsTo x p q k → Coefficients x p
 coefficients-all x p q k h a = record { wide = a .wide; entry = λ i l. a .done i (omega arith) }
+
+-- ---- ratio
+
+module _ (u v k l : ℕ) (a : LogOf u k) (b : LogOf v l) (d : v % 64 ≡ 0 → ⊥) where
+  whole : l + (63 - l) ≡ 63
+  whole = let h = b .below in omega arith
+
+  times-v : (u % 64 ≡ 0 → ⊥) → product v (power α (k + (63 - l))) ≡ u % 64
+  times-v h =
+      sym (Laws.product-low v (power α (k + (63 - l))))
+      ∙ ap₂ product (sym (b .is d)) (Laws.power-add α k (63 - l))
+      ∙ Laws.product-left-comm (power α l) (power α k) (power α (63 - l))
+      ∙ ap (product (power α k)) (sym (Laws.power-add α l (63 - l)) ∙ ap (power α) whole ∙ Laws.power-period)
+      ∙ Laws.product-one (power α k) (Laws.power-lt α k) ∙ a .is h
+
+  quotient : (u % 64 ≡ 0 → ⊥) → power α (k + (63 - l)) ≡ product u (inverse v)
+  quotient h =
+      Laws.divided-is u v (power α (k + (63 - l))) d (record { element = Laws.power-lt α (k + (63 - l)); exact = λ _. times-v h })
+
+  pub ratio-is : (w : ℕ) → w ≡ power α ((k + (63 - l)) % 63 % 64) → w * ((u % 64 + 63) / 64) ≡ product u (inverse v)
+  ratio-is w e =
+      ⊎-elim
+      (λ (z : u % 64 ≡ 0).
+      zero-times w (u % 64) z ∙ sym (ap (λ (t : ℕ). product t (inverse v)) z ∙ Laws.zero-product (inverse v)) ∙ Laws.product-low u (inverse v))
+      (λ (h : u % 64 ≡ 0 → ⊥).
+      one-times w (u % 64) h (low u) ∙ e ∙ ap (power α) (mod-eq-of-lt (below (k + (63 - l)))) ∙ Laws.power-mod (k + (63 - l)) ∙ quotient h)
+      (same-or-not (u % 64) 0)
+    where
+      below : (n : ℕ) → n % 63 < 64
+      below n = omega arith
+      zero-times : (w t : ℕ) → t ≡ 0 → w * ((t + 63) / 64) ≡ 0
+      zero-times w t z = let o : (t + 63) / 64 ≡ 0 = omega arith in ap (λ (n : ℕ). w * n) o ∙ mul-zero w
+      one-times : (w t : ℕ) → (t ≡ 0 → ⊥) → t < 64 → w * ((t + 63) / 64) ≡ w
+      one-times w t d h = let o : (t + 63) / 64 ≡ 1 = omega arith in ap (λ (n : ℕ). w * n) o ∙ mul-one w
+
+pub ratio-fits : (u w l : ℕ) → w ≡ power α l → w * ((u % 64 + 63) / 64) < 256
+ratio-fits u w l e =
+    let b : w < 64 = subst (λ (t : ℕ). t < 64) (sym e) (Laws.power-lt α l) in
+    let k : (u % 64 + 63) / 64 ≤ 1 = omega arith in
+    let m : w * ((u % 64 + 63) / 64) ≤ w * 1 = mul-le-mul-left w k in
+    omega arith
+
+-- ---- multiples
+
+module _ (a : ℕ) where
+  times : ℕ → ℕ
+  times k = pack 10 (λ l. product (lane a l) k)
+
+  times-sum : (u v : ℕ) → bitXor (times u) (times v) ≡ times (sum u v)
+  unfolding times
+  times-sum u v =
+      xor-pack 10 (λ l. product (lane a l) u) (λ l. product (lane a l) v) (λ l. Laws.product-lt (lane a l) u) (λ l. Laws.product-lt (lane a l) v)
+      ∙ pack-same 10 (λ l. sum (product (lane a l) u) (product (lane a l) v)) (λ l. product (lane a l) (sum u v)) (λ l h. sym (Laws.product-sum (lane a l) u v))
+
+  module _ (b c : ℕ) (h : a < 1152921504606846976) (eb : b ≡ pack 10 (λ l. product (lane a l) 2)) (ec : c ≡ pack 10 (λ l. product (lane a l) 4)) where
+    times-one : a ≡ times 1
+    unfolding times
+    times-one = pack-all 10 a h ∙ pack-same 10 (lane a) (λ l. product (lane a l) 1) (λ l k. sym (Laws.product-one (lane a l) (lane-lt a l)))
+
+    times-three : bitXor a b ≡ times 3
+    unfolding times sum
+    times-three = ap₂ bitXor times-one eb ∙ times-sum 1 2
+
+    table : List ℕ
+    table = 0 ∷ a ∷ b ∷ bitXor a b ∷ c ∷ bitXor c a ∷ bitXor c b ∷ bitXor c (bitXor a b) ∷ []
+
+    entry : (k : ℕ) → k < 8 → getD table k 0 ≡ times k
+    unfolding table times sum
+    entry zero l = sym (pack-none 10 (λ l. product (lane a l) 0) (λ l k. Laws.product-zero (lane a l)))
+    entry (suc zero) l = times-one
+    entry (suc (suc zero)) l = eb
+    entry (suc (suc (suc zero))) l = times-three
+    entry (suc (suc (suc (suc zero)))) l = ec
+    entry (suc (suc (suc (suc (suc zero))))) l = ap₂ bitXor ec times-one ∙ times-sum 4 1
+    entry (suc (suc (suc (suc (suc (suc zero)))))) l = ap₂ bitXor ec eb ∙ times-sum 4 2
+    entry (suc (suc (suc (suc (suc (suc (suc zero))))))) l = ap₂ bitXor ec times-three ∙ times-sum 4 3
+    entry (suc (suc (suc (suc (suc (suc (suc (suc k)))))))) l = absurd (omega arith)
+
+    pub multiples-are : Multiples a (0 ∷ a ∷ b ∷ bitXor a b ∷ c ∷ bitXor c a ∷ bitXor c b ∷ bitXor c (bitXor a b) ∷ [])
+    unfolding table times
+    multiples-are = record { times = entry }
+
+-- ---- row_cleared
+
+-- a factor in two parts, of three bits each
+eights : (f : ℕ) → f < 64 → sum (f % 8) (product 8 (f / 8)) ≡ f
+unfolding sum product shifted timesX
+eights f h = eqb→eq (sum (f % 8) (product 8 (f / 8))) f (each-at 64 (λ f. eqb (sum (f % 8) (product 8 (f / 8))) f) tt f h)
+
+-- two tables that multiply the lanes of y
+pub record Tables (y : ℕ) (low high : List ℕ) : Type 0 where
+  pub added : (x f : ℕ) → f < 64 → bitXor (bitXor x (getD low (f % 8) 0)) (getD high (f / 8) 0) ≡ bitXor x (pack 10 (λ k. product (lane y k) f))
+
+module _ (y b : ℕ) (low high : List ℕ) (l : Multiples (y % 1152921504606846976) low)
+    (e : b ≡ pack 10 (λ k. product (lane (y % 1152921504606846976) k) 8)) (h : Multiples b high) where
+  a : ℕ
+  a = y % 1152921504606846976
+
+  lane-a : (k : ℕ) → k < 10 → lane a k ≡ lane y k
+  unfolding a
+  lane-a k g = ap (λ (p : ℕ). lane p k) (pack-lanes 10 y) ∙ lane-pack 10 (lane y) (lane-lt y) k g
+
+  lane-b : (k : ℕ) → k < 10 → lane b k ≡ product (lane a k) 8
+  unfolding a
+  lane-b k g = ap (λ (p : ℕ). lane p k) e ∙ lane-pack 10 (λ k. product (lane a k) 8) (λ k. Laws.product-lt (lane a k) 8) k g
+
+  both-parts : (f k : ℕ) → f < 64 → k < 10 → sum (product (lane a k) (f % 8)) (product (lane b k) (f / 8)) ≡ product (lane y k) f
+  both-parts f k g m =
+      ap (λ (t : ℕ). sum (product (lane a k) (f % 8)) (product t (f / 8))) (lane-b k m)
+      ∙ ap (sum (product (lane a k) (f % 8))) (Laws.product-assoc (lane a k) 8 (f / 8))
+      ∙ sym (Laws.product-sum (lane a k) (f % 8) (product 8 (f / 8)))
+      ∙ ap₂ product (lane-a k m) (eights f g)
+
+  pub tables-are : Tables y low high
+  unfolding a
+  tables-are =
+      record {
+        added = λ x f g.
+            xor-assoc x (getD low (f % 8) 0) (getD high (f / 8) 0)
+            ∙ ap (bitXor x)
+            (ap₂ bitXor (l .times (f % 8) (omega arith)) (h .times (f / 8) (omega arith))
+            ∙ xor-pack 10 (λ k. product (lane a k) (f % 8)) (λ k. product (lane b k) (f / 8)) (λ k. Laws.product-lt (lane a k) (f % 8)) (λ k. Laws.product-lt (lane b k) (f / 8))
+            ∙ pack-same 10 (λ k. sum (product (lane a k) (f % 8)) (product (lane b k) (f / 8))) (λ k. product (lane y k) f) (λ k m. both-parts f k g m));
+      }
+
+pub scaled-fits : (a f b : ℕ) → b ≡ pack 10 (λ k. product (lane a k) f) → b < 1152921504606846976
+scaled-fits a f b e = subst (λ (n : ℕ). n < 1152921504606846976) (sym e) (pack-lt 10 (λ k. product (lane a k) f) (λ k. Laws.product-lt (lane a k) f))
+
+pub lane-not : (x j d : ℕ) → d ≡ lane x j → 0 < lane x j → d % 64 ≡ 0 → ⊥
+lane-not x j d e h z = let b : lane x j < 64 = lane-lt x j in let m : d % 64 ≡ d = mod-eq-of-lt (omega arith) in omega arith
+
+pub part-fits : (u v f : ℕ) → f ≡ product u (inverse v) → f / 8 < 8
+part-fits u v f e = let b : f < 64 = subst (λ (n : ℕ). n < 64) (sym e) (Laws.product-lt u (inverse v)) in omega arith
+
+-- the rows after row p and before row i are cleared
+pub record RowsClearedTo (x : List ℕ) (j p : ℕ) (r : List ℕ) (i : ℕ) : Type 0 where
+  pub long : length r ≡ 6
+  pub before : (k : ℕ) → k < p → getD r k 0 ≡ getD x k 0
+  pub done : (k : ℕ) → p < k → k < i → getD r k 0 ≡ bitXor (getD x k 0) (pack 10 (λ l. product (lane (getD x p 0) l) (factor x j p k)))
+  pub rest : (k : ℕ) → i ≤ k → getD r k 0 ≡ getD x k 0
+
+pub rows-cleared-none : (x : List ℕ) (j p : ℕ) → length x ≡ 6 → RowsClearedTo x j p x (p + 1)
+rows-cleared-none x j p w = record { long = w; before = λ k l. refl; done = λ k l b. absurd (omega arith); rest = λ k l. refl }
+
+pub rows-cleared-again : (x : List ℕ) (j p : ℕ) (r low high : List ℕ) (i d u f : ℕ) → p < i → i < 6 → d ≡ lane (getD x p 0) j → u ≡ lane (getD r i 0) j
+    → f ≡ product u (inverse d) → Tables (getD x p 0) low high → RowsClearedTo x j p r i
+    → RowsClearedTo x j p (set r i (bitXor (bitXor (getD r i 0) (getD low (f % 8) 0)) (getD high (f / 8) 0))) (i + 1)
+rows-cleared-again x j p r low high i d u f hp h ed eu ef t a =
+    let v : ℕ = bitXor (bitXor (getD r i 0) (getD low (f % 8) 0)) (getD high (f / 8) 0) in
+    let was : getD r i 0 ≡ getD x i 0 = a .rest i (omega arith) in
+    let small : f < 64 = subst (λ (n : ℕ). n < 64) (sym ef) (Laws.product-lt u (inverse d)) in
+    let same : f ≡ factor x j p i = ef ∙ ap₂ (λ (y z : ℕ). product y (inverse z)) (eu ∙ ap (λ (w : ℕ). lane w j) was) ed in
+    record {
+      long = length-set r i v ∙ a .long;
+      before = λ k l. getD-set-other r i k v 0 (λ q. omega arith) ∙ a .before k l;
+      done = λ k l b.
+          below-more (λ k. p < k → getD (set r i v) k 0 ≡ bitXor (getD x k 0) (pack 10 (λ l. product (lane (getD x p 0) l) (factor x j p k)))) i
+          (λ k b g. getD-set-other r i k v 0 (λ q. omega arith) ∙ a .done k g b)
+          (λ g. getD-set-same r i v 0 (omega (arith, a .long)) ∙ t .added (getD r i 0) f small
+          ∙ ap₂ (λ (y z : ℕ). bitXor y (pack 10 (λ l. product (lane (getD x p 0) l) z))) was same)
+          k b l;
+      rest = λ k l. getD-set-other r i k v 0 (λ q. omega arith) ∙ a .rest k (omega arith);
+    }
+
+pub rows-cleared-all : (x : List ℕ) (j p : ℕ) (r : List ℕ) (i : ℕ) → p < 6 → 6 ≤ i → RowsClearedTo x j p r i → RowsCleared x j p (set r p 0)
+rows-cleared-all x j p r i h l a =
+    record {
+      before = λ k b. getD-set-other r p k 0 0 (λ q. omega arith) ∙ a .before k b;
+      here = getD-set-same r p 0 0 (omega (arith, a .long));
+      after = λ k b c. getD-set-other r p k 0 0 (λ q. omega arith) ∙ a .done k b (omega arith);
+    }

@@ -418,13 +418,13 @@ fn row_cleared(mut x: [u64; 6], j: usize, p: usize) -> [u64; 6]
     let a = y % TEN_LANES;
     let low = multiples(a);
     let high = multiples(lanes::scale(a, 8));
-    x[p] = 0;
     let mut i = p + 1;
     while i < 6 {
         let f = ratio(lane_of(x[i], j), d);
         x[i] = x[i] ^ low[(f % 8) as usize] ^ high[(f / 8) as usize];
         i += 1;
     }
+    x[p] = 0;
     x
 }
 

@@ -171,6 +171,9 @@ pivot-row-here x j i v h e d q = record { small = omega arith; before = q; here 
 pub pivot-row-none : (x : List ℕ) (j i : ℕ) → i ≤ 6 → 6 ≤ i → QuietRows x j i → PivotRow x j 6
 pivot-row-none x j i h l q = record { small = omega arith; before = λ k b. q k (omega arith); here = λ b. absurd (omega arith) }
 
+pub pivot-row-lane : (x : List ℕ) (j r : ℕ) → r < 6 → PivotRow x j r → 0 < lane (getD x r 0) j
+pivot-row-lane x j r h a = a .here h
+
 abbrev pub BareRows : List ℕ → ℕ → Type 0
 BareRows x i = (k : ℕ) → k < i → getD x k 0 ≡ 0
 

@@ -1,21 +1,21 @@
 -- What the code of packed rows does, a turn of each loop at a time, over plain variables.
 use mathlib.Core.Path.{_≡_, refl, sym, ap, ap₂, _∙_, subst}
-use mathlib.Core.Logic.{_⊎_, inl, inr, ⊎-elim}
+use mathlib.Core.Logic.{_⊎_, ⊎-elim}
 use mathlib.Core.List.{List, [], _∷_}
-use Prim.Native.Nat.{ℕ, zero, suc, min, _+_, _-_, _*_, _/_, _%_, _^_, _<_, _≤_}
-use native.Mathlib.Nat.{div-div-eq-div-mul, div-one, pow-suc, pow-succ', pow-le-pow-right, zero-add, add-zero, eq-or-lt-of-le, mod-eq-of-lt, mul-zero, mul-one, mul-le-mul-left}
+use Prim.Native.Nat.{ℕ, zero, suc, _+_, _-_, _*_, _/_, _%_, _^_, _<_, _≤_}
+use native.Mathlib.Nat.{div-div-eq-div-mul, div-one, pow-suc, pow-le-pow-right, zero-add, add-zero, mod-eq-of-lt, mul-zero, mul-one, mul-le-mul-left}
 use native.Mathlib.Numerals.{add-one}
 use native.Mathlib.Omega.{arith}
 use borrow.Author.Count.{below-more}
-use lib.Dec.{T, eqb, eqb→eq}
+use lib.Dec.{eqb, eqb→eq}
 use lib.Bits.{bitXor}
 use lib.ListN.{getD, length, set, length-set, replicate}
 use lib.Seq.{getD-set-same, getD-set-other}
-use Rattle.numbers.proofs.Cases.{le-or-lt, same-or-not, pos-of-not-zero, not-zero-of-pos}
+use Rattle.numbers.proofs.Cases.{same-or-not, pos-of-not-zero}
 use Rattle.numbers.proofs.Range.{each-at}
 use Rattle.numbers.proofs.Xor.{xor-assoc}
 use Rattle.field.specs.Field.{sum, timesX, shifted, product, α, power}
-use Rattle.field.specs.Inside.{inverse, Divided}
+use Rattle.field.specs.Inside.{inverse}
 use Rattle.field.proofs.Laws
 use Rattle.places.specs.Logs.{LogOf}
 use Rattle.lanes.specs.Lanes.{pack, lane}
@@ -33,6 +33,7 @@ pow-lane (suc j) =
   where
     six : (j : ℕ) → 6 * suc j ≡ suc (suc (suc (suc (suc (suc (6 * j))))))
     six j = omega arith
+
     six-more : (n : ℕ) → 2 ^ suc (suc (suc (suc (suc (suc n))))) ≡ 2 ^ n * 64
     six-more n =
         let a : 2 ^ suc n ≡ 2 ^ n * 2 = pow-suc 2 n in
@@ -81,8 +82,10 @@ packed-again s q (suc k) h a = subst (λ (n : ℕ). PackedFrom s (q * 64 + getD 
   where
     one : (k : ℕ) → k ≡ suc k - 1
     one k = omega arith
+
     more : (k : ℕ) → suc k ≤ 10 → 10 - k ≡ suc (10 - suc k)
     more k h = omega arith
+
     is : q * 64 + getD s k 0 % 64 ≡ pack (10 - k) (λ l. getD s (k + l) 0 % 64)
     is =
         ap₂ (λ (x y : ℕ). x * 64 + getD s y 0 % 64)
@@ -239,8 +242,10 @@ module _ (u v k l : ℕ) (a : LogOf u k) (b : LogOf v l) (d : v % 64 ≡ 0 → �
     where
       below : (n : ℕ) → n % 63 < 64
       below n = omega arith
+
       zero-times : (w t : ℕ) → t ≡ 0 → w * ((t + 63) / 64) ≡ 0
       zero-times w t z = let o : (t + 63) / 64 ≡ 0 = omega arith in ap (λ (n : ℕ). w * n) o ∙ mul-zero w
+
       one-times : (w t : ℕ) → (t ≡ 0 → ⊥) → t < 64 → w * ((t + 63) / 64) ≡ w
       one-times w t d h = let o : (t + 63) / 64 ≡ 1 = omega arith in ap (λ (n : ℕ). w * n) o ∙ mul-one w
 

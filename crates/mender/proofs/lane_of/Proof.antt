@@ -4,17 +4,8 @@ use Rattle.mender.proofs.RowTurns.{lane-shift}
 use Rattle.mender.proofs.lane_of.Statement.{statement}
 use Rattle.mender.proofs.lane_of.Tie as tie
 
-mul-result : tie.Need-mul-result
-mul-result c = search needs
-
-shr-result : tie.Need-shr-result
-shr-result c = search needs
-
-cast-result : tie.Need-cast-result
-cast-result c = search needs
-
 returns : tie.Need-returns
 returns c = search (lane-shift, needs)
 
 pub lane-of-spec : {M : Type 1} → statement M
-lane-of-spec = tie.close (tie.spec mul-result shr-result cast-result returns)
+lane-of-spec = tie.close (tie.spec (λ c. search needs) (λ c. search needs) (λ c. search needs) returns)

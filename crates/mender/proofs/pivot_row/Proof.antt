@@ -15,23 +15,8 @@ abbrev μ-loop : tie.MeasureT-loop
 loop-holds : tie.Need-loop-holds Inv-loop μ-loop
 loop-holds c = search (below-none, needs)
 
-mul-lane-of : tie.Need-mul-lane-of Inv-loop μ-loop
-mul-lane-of c = search needs
-
-array-read-lane-of : tie.Need-array-read-lane-of Inv-loop μ-loop
-array-read-lane-of c = search needs
-
-lane-of-requires : tie.Need-lane-of-requires Inv-loop μ-loop
-lane-of-requires c κs = search needs
-
 returns : tie.Need-returns Inv-loop μ-loop
 returns c = search (pivot-row-here, needs)
-
-add-i : tie.Need-add-i Inv-loop μ-loop
-add-i c = search needs
-
-loop-less : tie.Need-loop-less Inv-loop μ-loop
-loop-less c = search needs
 
 loop-again : tie.Need-loop-again Inv-loop μ-loop
 loop-again c = search (quiet-rows-more, needs)
@@ -46,11 +31,11 @@ pivot-row-spec =
     Inv-loop
     μ-loop
     loop-holds
-    mul-lane-of
-    array-read-lane-of
-    lane-of-requires
+    (λ c. search needs)
+    (λ c. search needs)
+    (λ c κs. search needs)
     returns
-    add-i
-    loop-less
+    (λ c. search needs)
+    (λ c. search needs)
     loop-again
     returns-2)

@@ -16,26 +16,11 @@ Inv-loop sums e n most x₀ j₀ x j = (j ≤ most) × (most ≡ min n 5) × Row
 abbrev μ-loop : tie.MeasureT-loop
 μ-loop sums e n most x₀ j₀ x j = most - j
 
-least-requires : tie.Need-least-requires Inv-loop μ-loop
-least-requires c κs = search needs
-
-unit-rows-requires : tie.Need-unit-rows-requires Inv-loop μ-loop
-unit-rows-requires c κs = search needs
-
 loop-holds : tie.Need-loop-holds Inv-loop μ-loop
 loop-holds c = search (from-units, needs)
 
-pivot-row-requires : tie.Need-pivot-row-requires Inv-loop μ-loop
-pivot-row-requires c κs = search needs
-
 row-cleared-requires : tie.Need-row-cleared-requires Inv-loop μ-loop
 row-cleared-requires c κs = search (pivot-row-lane, needs)
-
-add-j : tie.Need-add-j Inv-loop μ-loop
-add-j c = search needs
-
-loop-less : tie.Need-loop-less Inv-loop μ-loop
-loop-less c = search needs
 
 loop-again : tie.Need-loop-again Inv-loop μ-loop
 loop-again c =
@@ -53,12 +38,12 @@ spanned-rows-spec =
     (tie.spec
     Inv-loop
     μ-loop
-    least-requires
-    unit-rows-requires
+    (λ c κs. search needs)
+    (λ c κs. search needs)
     loop-holds
-    pivot-row-requires
+    (λ c κs. search needs)
     row-cleared-requires
-    add-j
-    loop-less
+    (λ c. search needs)
+    (λ c. search needs)
     loop-again
     returns)

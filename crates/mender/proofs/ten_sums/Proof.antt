@@ -13,23 +13,11 @@ abbrev μ-loop : tie.MeasureT-loop
 loop-holds : tie.Need-loop-holds Inv-loop μ-loop
 loop-holds c = search (packed-none, needs)
 
-sub-k : tie.Need-sub-k Inv-loop μ-loop
-sub-k c = search needs
-
 mul-q : tie.Need-mul-q Inv-loop μ-loop
 mul-q c = search (packed-mul, needs)
 
-array-read-q : tie.Need-array-read-q Inv-loop μ-loop
-array-read-q c = search needs
-
-cast-q : tie.Need-cast-q Inv-loop μ-loop
-cast-q c = search needs
-
 add-q : tie.Need-add-q Inv-loop μ-loop
 add-q c = search (packed-add, needs)
-
-loop-less : tie.Need-loop-less Inv-loop μ-loop
-loop-less c = search needs
 
 loop-again : tie.Need-loop-again Inv-loop μ-loop
 loop-again c = search (packed-again, needs)
@@ -44,11 +32,11 @@ ten-sums-spec =
     Inv-loop
     μ-loop
     loop-holds
-    sub-k
+    (λ c. search needs)
     mul-q
-    array-read-q
-    cast-q
+    (λ c. search needs)
+    (λ c. search needs)
     add-q
-    loop-less
+    (λ c. search needs)
     loop-again
     returns)

@@ -20,18 +20,6 @@ mul-one c = search (one-mul, needs)
 add-x : tie.Need-add-x Inv-loop μ-loop
 add-x c = search (one-add, needs)
 
-mul-x : tie.Need-mul-x Inv-loop μ-loop
-mul-x c = search needs
-
-array-write-x : tie.Need-array-write-x Inv-loop μ-loop
-array-write-x c = search needs
-
-add-i : tie.Need-add-i Inv-loop μ-loop
-add-i c = search needs
-
-loop-less : tie.Need-loop-less Inv-loop μ-loop
-loop-less c = search needs
-
 loop-again : tie.Need-loop-again Inv-loop μ-loop
 loop-again c = search (unit-rows-again, needs)
 
@@ -47,9 +35,9 @@ unit-rows-spec =
     loop-holds
     mul-one
     add-x
-    mul-x
-    array-write-x
-    add-i
-    loop-less
+    (λ c. search needs)
+    (λ c. search needs)
+    (λ c. search needs)
+    (λ c. search needs)
     loop-again
     returns)

@@ -6,4 +6,7 @@ pub mod Finding
 pub mod OneError
 pub mod Rooting
 pub mod Repairing
+pub mod Locating
 pub mod Theorems
+pub mod Rows
+pub mod RowTurns

@@ -32,7 +32,7 @@ mixed-none q s j h =
 mixed-term : (a f b t : ℕ) → product (sum a (product f b)) t ≡ sum (product a t) (product f (product b t))
 mixed-term a f b t = simp Laws.ring
 
-mixed-added : (q r p : ℕ → ℕ) (f : ℕ) (s : List ℕ) (j : ℕ) → ((k : ℕ) → r k ≡ sum (q k) (product f (p k)))
+pub mixed-added : (q r p : ℕ → ℕ) (f : ℕ) (s : List ℕ) (j : ℕ) → ((k : ℕ) → r k ≡ sum (q k) (product f (p k)))
     → mixed r s j ≡ sum (mixed q s j) (product f (mixed p s j))
 unfolding mixed
 mixed-added q r p f s j h =

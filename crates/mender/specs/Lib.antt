@@ -2,3 +2,4 @@
 pub mod Mender
 pub mod Inside
 pub mod Found
+pub mod Rows

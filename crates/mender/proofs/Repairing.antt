@@ -32,7 +32,7 @@ use Rattle.mender.specs.Mender.{Fits, MendsTo, Mends, Word, Nearest, Has
 use Rattle.mender.specs.Inside.{Nothing}
 use Rattle.mender.specs.Found.{lone, OneError, ElementsTo, Clear, Repaired, Repairs, sixth}
 use Rattle.mender.proofs.OneError.{zero-get, lone-long, lone-here, lone-other, lone-weight, weight-nothing, sums-nothing}
-use Rattle.mender.proofs.Finding.{true-false, found-none, found-fits, none-near, one-near, nearest-none}
+use Rattle.mender.proofs.Finding.{true-false, found-none, found-fits, none-near, one-near, nearest-none, mended}
 
 -- ---- whether the first c sums are elements
 
@@ -260,3 +260,25 @@ sixth-zero x h p v ep ev z = tells-yes (sym (sixth-is x h (h .first / 1073741824
 
 pub mended-eleven : (s : List ℕ) (e x : ℕ) (m : Mended) → x ≡ min e 5 → MendsTo s 11 x m → Mends s 11 e m
 mended-eleven s e x m q f = subst (λ (k : ℕ). MendsTo s 11 k m) q f
+
+-- ---- mend
+
+module _ (s : List ℕ) (c e x y : ℕ) (m : Mended) (b : Bool) (ex : x ≡ min c 11) (ey : y ≡ min e (x / 2)) (t : Tells (ElementsTo s x) b) where
+  pub mend-refused : b ≡ false → Nothing m → Mends s c e m
+  mend-refused q n = mended s c e x y m ex ey (not-elements s x y m b t q n)
+
+  pub mend-found : b ≡ true → (h : Eleven) → eleven h ≡ lowered s → MendsTo (eleven h) x y m → Mends s c e m
+  mend-found q h eh f =
+      mended s c e x y m ex ey
+      (mends-same s (eleven h) x y m (λ k l. lowered-same s x k (omega arith) (t .holds q) l ∙ ap (λ (u : List ℕ). getD u k 0) (sym eh)) f)
+
+-- one error lies inside the word
+pub one-inside : (s : List ℕ) (o : Single) → OneError s o → o .found ≡ true → o .address < 63
+one-inside s o a q = a .inside q
+
+-- what the nearest word asks of its parts
+pub wanted-near : (w u s d : List ℕ) (h : Eleven) (e x : ℕ) (b f : Bool) (m : Mended) → length w ≡ 63 → Tells (Characters w) b → b ≡ true → PowerSums w u → length s ≡ 11
+    → Tells (ElementsTo s 11) f → f ≡ true → eleven h ≡ lowered s → d ≡ added u (eleven h) → x ≡ min e 5 → Repairs d w x m → Nearest (HasSums s) w (min e 5) m
+wanted-near w u s d h e x b f m l t q us ls te tq eh ed ex y =
+    subst (λ (k : ℕ). Nearest (HasSums s) w k m) ex
+    (near w u s d x b m l t q us ls (ed ∙ ap (added u) (packed-same s h f ls te tq eh)) y)

@@ -83,19 +83,21 @@ fn repaired(word: &[u8], sums: Eleven, e: usize) -> Mended
     ensures { λ r. ⌜ Repairs (eleven sums) (now (word .entry)) e r ⌝ }
 {
     if all_zero(sums) {
+        let same = word_added(word, [0u8; 63]);
         return Mended {
             found: true,
             weight: 0,
-            word: word_added(word, [0u8; 63]),
+            word: same,
         };
     }
     if e > 0 {
         let one = lone_error(sums);
         if one.found {
+            let mended = changed(word, one.address, one.value);
             return Mended {
                 found: true,
                 weight: 1,
-                word: changed(word, one.address, one.value),
+                word: mended,
             };
         }
     }
@@ -103,10 +105,12 @@ fn repaired(word: &[u8], sums: Eleven, e: usize) -> Mended
     if !errors.found {
         return nothing();
     }
+    let pattern = errors.word;
+    let mended = word_added(word, pattern);
     Mended {
         found: true,
         weight: errors.weight,
-        word: word_added(word, errors.word),
+        word: mended,
     }
 }
 
@@ -221,71 +225,6 @@ fn sixth_window(x: u64, s: Eleven) -> bool
     true
 }
 
-// The polynomials of degree at most e that combine n windows of the sums to 0.
-fn kernel(s: [u8; 11], n: usize, e: usize) -> [[u8; 6]; 6]
-    requires { ⌜ (n ≤ 6) × (e ≤ 5) ⌝ }
-    ensures { λ r. ⌜ Spanned s e n r ⌝ }
-{
-    let mut m = units(e);
-    let mut j: usize = 0;
-    while j < n {
-        let p = pivot(m, s, j);
-        if p < 6 {
-            let t = cleared(m, s, j, p);
-            m = t;
-        }
-        j += 1;
-    }
-    m
-}
-
-// The unit vectors of degree 0 to e, and rows of 0.
-fn units(e: usize) -> [[u8; 6]; 6]
-    requires { ⌜ e ≤ 5 ⌝ }
-    ensures { λ r. ⌜ Units (suc e) r ⌝ }
-{
-    let mut m = [[0u8; 6]; 6];
-    let mut i: usize = 0;
-    while i <= e {
-        m[i][i] = 1;
-        i += 1;
-    }
-    m
-}
-
-// The first row that does not combine window j to 0, or 6.
-fn pivot(m: [[u8; 6]; 6], s: [u8; 11], j: usize) -> usize
-    requires { ⌜ j < 6 ⌝ }
-    ensures { λ r. ⌜ Pivot m s j r ⌝ }
-{
-    let mut i: usize = 0;
-    while i < 6 {
-        let row = m[i];
-        if mix(row, s, j) != 0 {
-            return i;
-        }
-        i += 1;
-    }
-    6
-}
-
-// Each row and the multiple of row p with which it combines window j to 0; row p itself becomes 0.
-fn cleared(mut m: [[u8; 6]; 6], s: [u8; 11], j: usize, p: usize) -> [[u8; 6]; 6]
-    requires { ⌜ (j < 6) × (p < 6) × Pivot m s j p ⌝ }
-    ensures { λ r. ⌜ Stepped s j p m r ⌝ }
-{
-    let pivot = m[p];
-    let d = mix(pivot, s, j);
-    let mut i: usize = 0;
-    while i < 6 {
-        let row = m[i];
-        let f = field::over(mix(row, s, j), d);
-        m[i] = row_added(row, f, pivot);
-        i += 1;
-    }
-    m
-}
-
 // Window j of the sums, combined with q.
 fn mix(q: [u8; 6], s: [u8; 11], j: usize) -> u8
     requires { ⌜ j < 6 ⌝ }
@@ -298,50 +237,6 @@ fn mix(q: [u8; 6], s: [u8; 11], j: usize) -> u8
         k += 1;
     }
     sum
-}
-
-// A row and f times another.
-fn row_added(row: [u8; 6], f: u8, other: [u8; 6]) -> [u8; 6]
-    ensures { λ r. ⌜ RowAdded row f other r ⌝ }
-{
-    let mut r = row;
-    let mut k: usize = 0;
-    while k < 6 {
-        r[k] = r[k] ^ field::times(f, other[k]);
-        k += 1;
-    }
-    r
-}
-
-// The first row that is not 0, or 6.
-fn first(m: [[u8; 6]; 6]) -> usize
-    ensures { λ r. ⌜ First m r ⌝ }
-{
-    let mut i: usize = 0;
-    while i < 6 {
-        if m[i][i] != 0 {
-            return i;
-        }
-        i += 1;
-    }
-    6
-}
-
-// The values at all places, by the locator p: place x is that of address 62 - l.
-fn values(p: [u8; 6], s: [u8; 11]) -> [u8; 63]
-    requires { ⌜ Small p ⌝ }
-    ensures { λ r. ⌜ ValuedFrom p s r 63 ⌝ }
-{
-    let mut w = [0u8; 63];
-    let mut x: u8 = 1;
-    let mut l: usize = 0;
-    while l < 63 {
-        let v = value(p, s, x);
-        w[62 - l] = v;
-        x = field::times_x(x);
-        l += 1;
-    }
-    w
 }
 
 // The values at the roots of the locator p, place by place from 1 on: the place of address 62 - l is α^l. No other place has a value.
@@ -417,21 +312,6 @@ fn fifth_power(x: u8) -> u8
 {
     let square = field::times(x, x);
     field::times(x, field::times(square, square))
-}
-
-// How many characters are not 0.
-fn weight_of(w: [u8; 63]) -> u8
-    ensures { λ r. ⌜ r ≡ weight w ⌝ }
-{
-    let mut n: u8 = 0;
-    let mut a: usize = 0;
-    while a < 63 {
-        if w[a] != 0 {
-            n += 1;
-        }
-        a += 1;
-    }
-    n
 }
 
 // Whether the first c sums agree.

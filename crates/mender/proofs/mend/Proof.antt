@@ -1,14 +1,44 @@
--- `mender::mend` meets its contract: c counts up to 11, and e up to half of it.
+-- `mender::mend` meets its contract: c counts up to 11, e up to half of it, and sums that are no elements have no word.
 use borrow.Author.Needs.{needs}
-use Rattle.mender.proofs.Finding.{mended, mended-bounds}
+use borrow.Author.Tests.{not-true, not-false}
+use Rattle.mender.proofs.Repairing.{mend-refused, mend-found}
+use Rattle.mender.proofs.Finding.{mended-bounds}
 use Rattle.mender.proofs.mend.Statement.{statement}
 use Rattle.mender.proofs.mend.Tie as tie
+
+least-requires : tie.Need-least-requires
+least-requires c κs = search needs
+
+least-requires-2 : tie.Need-least-requires-2
+least-requires-2 c κs = search needs
+
+elements-to-requires : tie.Need-elements-to-requires
+elements-to-requires c κs = search needs
+
+nothing-requires : tie.Need-nothing-requires
+nothing-requires c κs = search needs
+
+returns : tie.Need-returns
+returns c = search (mend-refused, not-true, needs)
+
+packed-requires : tie.Need-packed-requires
+packed-requires c κs = search needs
 
 find-requires : tie.Need-find-requires
 find-requires c κs = search (mended-bounds, needs)
 
-returns : tie.Need-returns
-returns c = search (mended, needs)
+returns-2 : tie.Need-returns-2
+returns-2 c = search (mend-found, not-false, needs)
 
 pub mend-spec : {M : Type 1} → statement M
-mend-spec = tie.close (tie.spec (λ c κs. search needs) (λ c κs. search needs) find-requires returns)
+mend-spec =
+    tie.close
+    (tie.spec
+    least-requires
+    least-requires-2
+    elements-to-requires
+    nothing-requires
+    returns
+    packed-requires
+    find-requires
+    returns-2)

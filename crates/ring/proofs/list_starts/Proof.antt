@@ -3,12 +3,13 @@ use native.Mathlib.Omega.{arith}
 use borrow.Author.Needs.{needs}
 use mathlib.Core.Logic.{⊎-elim}
 use Prim.Native.Nat.{_-_, _<_}
+use Rattle.code.specs.Held.{eleven}
 use Rattle.ring.proofs.Turns.{ListedTo, listed-none, listed-one, listed-not, listed-all}
 use Rattle.ring.proofs.list_starts.Statement.{statement}
 use Rattle.ring.proofs.list_starts.Tie as tie
 
 abbrev Inv-loop : tie.InvT-loop
-Inv-loop ring radius output₀ sums marks₀ count₀ start₀ output marks count start = ListedTo ring radius output₀ output sums marks count start
+Inv-loop ring radius output₀ sums marks₀ count₀ start₀ output marks count start = ListedTo ring radius output₀ output (eleven sums) (eleven marks) count start
 
 abbrev μ-loop : tie.MeasureT-loop
 μ-loop ring radius output₀ sums marks₀ count₀ start₀ output marks count start = 126 - start

@@ -1,0 +1,17 @@
+-- `ring::turned_back` meets its contract: each lane by its own power of α.
+use borrow.Author.Needs.{needs}
+use Rattle.ring.proofs.Turns.{turned-sums}
+use Rattle.ring.proofs.turned_back.Statement.{statement}
+use Rattle.ring.proofs.turned_back.Tie as tie
+
+products-requires : tie.Need-products-requires
+products-requires c κs = search needs
+
+times-requires : tie.Need-times-requires
+times-requires c κs = search needs
+
+returns : tie.Need-returns
+returns c = search (turned-sums, needs)
+
+pub turned-back-spec : {M : Type 1} → statement M
+turned-back-spec = tie.close (tie.spec products-requires times-requires returns)

@@ -4,9 +4,7 @@ use mathlib.Core.Logic.{⊎-elim}
 use mathlib.Core.List.{List, [], _∷_}
 use Prim.Native.Nat.{ℕ, zero, suc, _+_, _-_, _*_, _/_, _%_, _<_, _≤_}
 use native.Mathlib.Nat.{add-zero, zero-add}
-use native.Mathlib.Numerals.{add-one}
 use native.Mathlib.Omega.{arith}
-use lib.Bits.{bitXor}
 use lib.ListN.{length, getD, set, length-set}
 use lib.Seq.{getD-set-same, getD-set-other}
 use borrow.Author.Count.{below-none, below-more}
@@ -36,25 +34,6 @@ unfolding point
 outer-sum w h i = value-valueAt w i ∙ sym (powerSum-value (58 + i + i / 5) w h)
 
 -- ---- S_0
-
-pub record XoredTo (w : List ℕ) (s a : ℕ) : Type 0 where
-  pub most : a ≤ length w
-  pub is : s ≡ total a (λ b. getD w b 0)
-
-pub xored-none : (w : List ℕ) → XoredTo w 0 0
-unfolding total
-xored-none w = record { most = omega arith; is = refl }
-
-pub xored-again : (w : List ℕ) (s a : ℕ) → XoredTo w s a → a < length w → XoredTo w (bitXor s (getD w a 0)) (a + 1)
-unfolding total sum
-xored-again w s a x h =
-    record {
-      most = omega arith;
-      is = ap (λ (t : ℕ). bitXor t (getD w a 0)) (x .is) ∙ ap (λ (n : ℕ). total n (λ b. getD w b 0)) (sym (add-one a));
-    }
-
-pub xored-all : (w : List ℕ) (s a : ℕ) → XoredTo w s a → length w ≤ a → s ≡ total (length w) (λ b. getD w b 0)
-xored-all w s a x h = x .is ∙ ap (λ (n : ℕ). total n (λ b. getD w b 0)) (let m = x .most in omega arith)
 
 total-low : (n : ℕ) (f : ℕ → ℕ) → total n f % 64 ≡ total n (λ a. f a % 64)
 unfolding total

@@ -11,31 +11,12 @@ use Rattle.refusal.specs.Promise.{Tells}
 use Rattle.refusal.proofs.Laws.{tells-yes, tells-no}
 use Rattle.code.specs.Word.{Characters, marks, Line}
 use Rattle.code.specs.Inside.{PowerSums}
-use Rattle.code.proofs.Words.{characters-below}
 use Rattle.code.proofs.Lines.{line-long, line-characters, line-sums, sums-line}
 
 -- ---- a character
 
 pub past-end : (w : List ℕ) (a : ℕ) → length w ≤ a → 0 ≡ getD w a 0
 past-end w a h = sym (List·getD-eq-default w 0 h)
-
--- ---- whether the characters are in range
-
-pub record InRange (w : List ℕ) (a : ℕ) : Type 0 where
-  pub most : a ≤ length w
-  pub passed : (b : ℕ) → b < a → getD w b 0 < 64
-
-pub range-none : (w : List ℕ) → InRange w 0
-range-none w = record { most = omega arith; passed = below-none (λ b. getD w b 0 < 64) }
-
-pub range-again : (w : List ℕ) (a : ℕ) → InRange w a → a < length w → getD w a 0 ≤ 63 → InRange w (a + 1)
-range-again w a r h l = record { most = omega arith; passed = below-more (λ b. getD w b 0 < 64) a (r .passed) (omega arith) }
-
-pub range-all : (w : List ℕ) (a : ℕ) → InRange w a → length w ≤ a → Tells (Characters w) true
-range-all w a r h = tells-yes (characters-below w a h (r .passed))
-
-pub range-over : (w : List ℕ) (a : ℕ) → 63 < getD w a 0 → Tells (Characters w) false
-range-over w a h = tells-no (λ r. let l = r a in omega arith)
 
 -- ---- whether two lists of eleven are the same
 

@@ -1,7 +1,6 @@
 // Words of 63 characters: their power sums, and the test for a line.
 ghost use mathlib.Core.Path.{_≡_};
-ghost use lib.ListN.{length, getD};
-ghost use Rattle.field.specs.Field.{total};
+ghost use lib.ListN.{getD};
 ghost use Rattle.code.specs.Word.{Characters, marks};
 ghost use Rattle.refusal.specs.Promise.{Tells};
 ghost use Rattle.code.specs.Promises.{TellsLine};
@@ -31,14 +30,7 @@ pub fn is_line(word: &[u8]) -> bool
 pub fn in_range(word: &[u8]) -> bool
     ensures { λ r. ⌜ Tells (Characters (now (word .entry))) r ⌝ }
 {
-    let mut a = 0;
-    while a < word.len() {
-        if word[a] > 63 {
-            return false;
-        }
-        a += 1;
-    }
-    true
+    eights::all_low(word)
 }
 
 // The eleven power sums, S_-5 first, of the first 63 characters. What the word lacks of them counts as 0, and of each the low six bits count.
@@ -64,21 +56,8 @@ pub fn packed_sums(word: &[u8]) -> PackedSums
 {
     let v = filled(word);
     let outer = points::values(v);
-    let middle = xor_of(&v) % 64;
+    let middle = eights::xor_of(&v) % 64;
     PackedSums { outer, middle }
-}
-
-// The exclusive or of all characters.
-fn xor_of(word: &[u8]) -> u8
-    ensures { λ r. ⌜ r ≡ total (length (now (word .entry))) (λ a. getD (now (word .entry)) a 0) ⌝ }
-{
-    let mut s: u8 = 0;
-    let mut a: usize = 0;
-    while a < word.len() {
-        s = s ^ word[a];
-        a += 1;
-    }
-    s
 }
 
 // The first 63 characters, 0 for each that the word lacks. A word of 63 is copied with no further test.

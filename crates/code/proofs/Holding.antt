@@ -14,9 +14,11 @@ use lib.Seq.{getD-set-same, getD-set-other, ext-getD}
 use Rattle.field.specs.Field.{sum}
 use Rattle.field.proofs.Laws
 use Rattle.lanes.specs.Lanes.{pack, lane}
-use Rattle.lanes.proofs.Laws.{lane-lt, lane-zero, lane-suc, pack-same, pack-lt, lane-pack, lane-xor}
+use Rattle.lanes.proofs.Laws.{lane-lt, lane-zero, lane-suc, pack-same, pack-lt, lane-pack, lane-xor, lane-after, pack-lanes, pack-last, pack-split}
 use Rattle.code.specs.declared.Eleven.{Eleven}
-use Rattle.code.specs.Word.{Characters, added}
+use Rattle.code.specs.declared.PackedSums.{PackedSums}
+use Rattle.code.specs.Word.{Characters, powerSum, added}
+use Rattle.code.specs.Packed.{Packed}
 use Rattle.code.specs.Held.{elevenAt, eleven, lowered}
 use Rattle.code.specs.Inside.{PowerSums}
 use Rattle.code.proofs.Sums.{powerSum-lt}
@@ -194,3 +196,65 @@ sums-held w s h p e =
           ap (λ (t : List ℕ). getD t k 0) e ∙ listed-get (λ k. getD s k 0 % 64) 11 k l ∙ ap (λ (n : ℕ). n % 64) (p .sum-at k l)
           ∙ mod-eq-of-lt (powerSum-lt (58 + k) w);
     }
+
+-- S_0 set between the other ten, in lanes
+module _ (w : List ℕ) (r : PackedSums) (h : Packed w r) where
+  f : ℕ → ℕ
+  f k = powerSum (58 + k) w
+
+  f-lt : (k : ℕ) → f k < 64
+  unfolding f
+  f-lt k = powerSum-lt (58 + k) w
+
+  outer-lane : (k : ℕ) → k < 10 → lane (r .outer) k ≡ powerSum (58 + k + k / 5) w
+  outer-lane k l =
+      ap (λ (p : ℕ). lane p k) (h .outer) ∙ lane-pack 10 (λ k. powerSum (58 + k + k / 5) w) (λ k. powerSum-lt (58 + k + k / 5) w) k l
+
+  before : r .outer % 1073741824 ≡ pack 5 f
+  unfolding f
+  before =
+      pack-lanes 5 (r .outer)
+      ∙ pack-same 5 (lane (r .outer)) (λ k. powerSum (58 + k) w) (λ k l. outer-lane k (omega arith) ∙ ap (λ (j : ℕ). powerSum j w) (omega arith))
+
+  between : r .middle % 64 ≡ f 5
+  unfolding f
+  between = ap (λ (n : ℕ). n % 64) (h .middle) ∙ mod-eq-of-lt (powerSum-lt 63 w)
+
+  after : r .outer / 1073741824 % 16777216 ≡ pack 4 (λ k. f (6 + k))
+  unfolding f
+  after =
+      pack-lanes 4 (r .outer / 1073741824)
+      ∙ pack-same 4 (lane (r .outer / 1073741824)) (λ k. powerSum (58 + (6 + k)) w)
+      (λ k l. lane-after (r .outer) 5 k ∙ outer-lane (5 + k) (omega arith) ∙ ap (λ (j : ℕ). powerSum j w) (omega arith))
+
+  first-ten : r .outer % 1073741824 + r .middle % 64 * 1073741824 + r .outer / 1073741824 % 16777216 * 68719476736 ≡ pack 10 f
+  first-ten =
+      ap₂ (λ (a b : ℕ). a + b * 68719476736) (ap₂ (λ (a b : ℕ). a + b * 1073741824) before between ∙ sym (pack-last 5 f)) after
+      ∙ sym (pack-split 6 4 f)
+
+  last-one : r .outer / 18014398509481984 % 64 ≡ f 10
+  unfolding lane f
+  last-one = outer-lane 9 (omega arith)
+
+  pub first-fits : r .outer % 1073741824 + r .middle % 64 * 1073741824 + r .outer / 1073741824 % 16777216 * 68719476736 < 18446744073709551616
+  first-fits = omega arith
+
+  pub sums-in-order : PowerSums w (eleven (record {
+      first = r .outer % 1073741824 + r .middle % 64 * 1073741824 + r .outer / 1073741824 % 16777216 * 68719476736;
+      last = r .outer / 18014398509481984 % 64;
+    }))
+  unfolding f
+  sums-in-order =
+      let e : Eleven = record {
+        first = r .outer % 1073741824 + r .middle % 64 * 1073741824 + r .outer / 1073741824 % 16777216 * 68719476736;
+        last = r .outer / 18014398509481984 % 64;
+      } in
+      record {
+        long = eleven-long e;
+        sum-at = λ k l.
+            ⊎-elim (λ (q : k ≡ 10). subst (λ (i : ℕ). getD (eleven e) i 0 ≡ powerSum (58 + i) w) (sym q) (eleven-last e ∙ low-twice (r .outer / 18014398509481984) ∙ last-one))
+            (λ (m : k < 10). eleven-first e k m ∙ ap (λ (p : ℕ). lane p k) first-ten ∙ lane-pack 10 f f-lt k m) (eq-or-lt-of-le (le-of-suc-le-suc l));
+      }
+    where
+      low-twice : (c : ℕ) → c % 64 % 64 ≡ c % 64
+      low-twice c = omega arith

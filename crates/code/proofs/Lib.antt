@@ -3,6 +3,7 @@ pub mod Words
 pub mod Distances
 pub mod Sums
 pub mod Horner
+pub mod Packing
 pub mod Lines
 pub mod Turns
 pub mod Holding

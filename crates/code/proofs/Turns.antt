@@ -1,77 +1,22 @@
 -- What the code of words does, a turn and a way out at a time, over plain variables.
-use mathlib.Core.Path.{_≡_, refl, sym, ap, ap₂, _∙_, subst}
+use mathlib.Core.Path.{_≡_, sym, ap, _∙_, subst}
 use mathlib.Core.Bool.{Bool, true, false}
 use mathlib.Core.List.{List}
-use Prim.Native.Nat.{ℕ, _+_, _%_, _<_, _≤_}
-use native.Mathlib.Nat.{add-suc}
-use native.Mathlib.Numerals.{add-one}
+use Prim.Native.Nat.{ℕ, _+_, _<_, _≤_}
 use native.Mathlib.Omega.{arith}
-use lib.ListN.{length, getD, set, length-set, List·getD-eq-default}
-use lib.Seq.{getD-set-same, getD-set-other, ext-getD}
+use lib.ListN.{length, getD, List·getD-eq-default}
+use lib.Seq.{ext-getD}
 use borrow.Author.Count.{below-none, below-more}
 use Rattle.refusal.specs.Promise.{Tells}
 use Rattle.refusal.proofs.Laws.{tells-yes, tells-no}
-use Rattle.field.specs.Field.{sum, timesX, shifted, product, α, power}
-use Rattle.code.specs.Word.{Characters, powerSum, marks, Line}
-use Rattle.code.specs.Inside.{PowerSums, wordAt}
-use Rattle.code.proofs.Sums.{powerSum-at}
-use Rattle.code.proofs.Horner.{horner, horner-word}
+use Rattle.code.specs.Word.{Characters, marks, Line}
+use Rattle.code.specs.Inside.{PowerSums}
 use Rattle.code.proofs.Lines.{line-long, line-characters, line-sums, sums-line}
 
 -- ---- a character
 
 pub past-end : (w : List ℕ) (a : ℕ) → length w ≤ a → 0 ≡ getD w a 0
 past-end w a h = sym (List·getD-eq-default w 0 h)
-
--- ---- the value at x, by Horner's rule
-
-pub value-none : (x : ℕ) (w : List ℕ) → 0 ≡ horner x w 0
-unfolding horner
-value-none x w = refl
-
-pub value-again : (x : ℕ) (w : List ℕ) (a s t c n : ℕ) → s ≡ horner x w a → t ≡ product s x → c ≡ getD w a 0 → n ≡ sum t (c % 64)
-    → n ≡ horner x w (a + 1)
-unfolding horner
-value-again x w a s t c n e f g h =
-    h ∙ ap₂ (λ (y z : ℕ). sum y (z % 64)) (f ∙ ap (λ (y : ℕ). product y x) e) g ∙ ap (horner x w) (sym (add-one a))
-
-pub value-all : (x : ℕ) (w : List ℕ) (a s : ℕ) → a ≤ 63 → 63 ≤ a → s ≡ horner x w a → s ≡ wordAt w x
-value-all x w a s h l e = e ∙ ap (horner x w) (omega arith) ∙ horner-word x w
-
--- ---- the eleven sums: k of them are there, and x is α to the power of the next
-
-pub record SumsTo (w sums : List ℕ) (x k : ℕ) : Type 0 where
-  pub most : k ≤ 11
-  pub long : length sums ≡ 11
-  pub next : x ≡ power α (58 + k)
-  pub passed : (m : ℕ) → m < k → getD sums m 0 ≡ powerSum (58 + m) w
-
-lowest : 63 ≡ power α 58
-unfolding power product shifted timesX sum
-lowest = refl
-
-pub sums-none : (w sums : List ℕ) → length sums ≡ 11 → SumsTo w sums 63 0
-sums-none w sums h =
-    record { most = omega arith; long = h; next = lowest; passed = below-none (λ m. getD sums m 0 ≡ powerSum (58 + m) w) }
-
-next-power : (k x y : ℕ) → x ≡ power α (58 + k) → y ≡ product 2 x → y ≡ power α (58 + (k + 1))
-unfolding power
-next-power k x y e f = f ∙ ap (product α) e ∙ ap (power α) (sym (ap (λ (n : ℕ). 58 + n) (add-one k) ∙ add-suc 58 k))
-
-pub sums-again : (w sums : List ℕ) (x k v y : ℕ) → SumsTo w sums x k → k < 11 → v ≡ wordAt w x → y ≡ product 2 x
-    → SumsTo w (set sums k v) y (k + 1)
-sums-again w sums x k v y s h e f =
-    record {
-      most = omega arith;
-      long = length-set sums k v ∙ s .long;
-      next = next-power k x y (s .next) f;
-      passed = below-more (λ m. getD (set sums k v) m 0 ≡ powerSum (58 + m) w) k
-          (λ m b. getD-set-other sums k m v 0 (λ q. omega arith) ∙ s .passed m b)
-          (getD-set-same sums k v 0 (let l = s .long in omega arith) ∙ e ∙ ap (wordAt w) (s .next) ∙ sym (powerSum-at (58 + k) w));
-    }
-
-pub sums-all : (w sums : List ℕ) (x k : ℕ) → SumsTo w sums x k → 11 ≤ k → PowerSums w sums
-sums-all w sums x k s h = record { long = s .long; sum-at = λ m b. s .passed m (omega arith) }
 
 -- ---- whether two lists of eleven are the same
 

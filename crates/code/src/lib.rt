@@ -4,13 +4,15 @@ ghost use lib.ListN.{getD};
 ghost use Rattle.code.specs.Word.{Characters, marks, added};
 ghost use Rattle.refusal.specs.Promise.{Tells};
 ghost use Rattle.code.specs.Promises.{TellsLine};
-ghost use Rattle.code.specs.Inside.{PowerSums, wordAt};
 ghost use Rattle.code.specs.Held.{eleven, lowered};
+ghost use Rattle.code.specs.Inside.{PowerSums};
+ghost use Rattle.code.specs.Packed.{Packed, Filled};
 
-const ALPHA: u8 = 2;
-
-// The power -5 of α, which is its power 58.
-const LOWEST_POWER: u8 = 63;
+// The power sums of a word: S_-5 to S_-1 and S_1 to S_5 in six-bit lanes, the first lowest, and S_0 beside them.
+pub struct PackedSums {
+    pub outer: u64,
+    pub middle: u8,
+}
 
 // The eleven power sums, S_-5 first: ten in the lanes of one number, the last beside it.
 pub struct Eleven {
@@ -42,15 +44,47 @@ pub fn in_range(word: &[u8]) -> bool
 pub fn power_sums(word: &[u8]) -> [u8; 11]
     ensures { λ r. ⌜ PowerSums (now (word .entry)) r ⌝ }
 {
+    let packed = packed_sums(word);
+    let mut p = packed.outer;
     let mut sums = [0u8; 11];
-    let mut x = LOWEST_POWER;
-    let mut k = 0;
-    while k < 11 {
-        sums[k] = word_at(word, x);
-        x = field::times(ALPHA, x);
+    sums[5] = packed.middle;
+    let mut k: usize = 0;
+    while k < 10 {
+        sums[k + k / 5] = (p % 64) as u8;
+        p = p / 64;
         k += 1;
     }
     sums
+}
+
+// The same eleven sums, packed.
+pub fn packed_sums(word: &[u8]) -> PackedSums
+    ensures { λ r. ⌜ Packed (now (word .entry)) r ⌝ }
+{
+    let v = filled(word);
+    let outer = points::values(v);
+    let middle = eights::xor_of(&v) % 64;
+    PackedSums { outer, middle }
+}
+
+// The first 63 characters, 0 for each that the word lacks. A word of 63 is copied with no further test.
+fn filled(word: &[u8]) -> [u8; 63]
+    ensures { λ r. ⌜ Filled (now (word .entry)) r ⌝ }
+{
+    let mut v = [0u8; 63];
+    let mut a: usize = 0;
+    if word.len() == 63 {
+        while a < 63 {
+            v[a] = word[a];
+            a += 1;
+        }
+        return v;
+    }
+    while a < 63 {
+        v[a] = character(word, a);
+        a += 1;
+    }
+    v
 }
 
 // The eleven power sums of the marks.
@@ -58,19 +92,6 @@ pub fn mark_sums() -> [u8; 11]
     ensures { λ r. ⌜ PowerSums marks r ⌝ }
 {
     [43, 6, 3, 25, 3, 41, 25, 5, 27, 61, 52]
-}
-
-// The value at x of the first 63 characters as a polynomial, by Horner's rule.
-fn word_at(word: &[u8], x: u8) -> u8
-    ensures { λ r. ⌜ r ≡ wordAt (now (word .entry)) x ⌝ }
-{
-    let mut value: u8 = 0;
-    let mut a: usize = 0;
-    while a < 63 {
-        value = field::plus(field::times(value, x), character(word, a) % 64);
-        a += 1;
-    }
-    value
 }
 
 // The character at an address, 0 past the end.
@@ -101,7 +122,12 @@ fn same(u: [u8; 11], v: [u8; 11]) -> bool
 pub fn eleven_sums(word: &[u8]) -> Eleven
     ensures { λ r. ⌜ PowerSums (now (word .entry)) (eleven r) ⌝ }
 {
-    packed(power_sums(word))
+    let sums = packed_sums(word);
+    let outer = sums.outer;
+    Eleven {
+        first: outer % 1073741824 + (sums.middle % 64) as u64 * 1073741824 + outer / 1073741824 % 16777216 * 68719476736,
+        last: (outer / 18014398509481984 % 64) as u8,
+    }
 }
 
 // Eleven sums packed: of each the low six bits count.

@@ -1,24 +1,24 @@
--- The loop keeps that the sums so far are in place, and that x is α to the power of the next.
+-- `code::power_sums` meets its contract: the loop keeps that the sums passed are in place, and S_0 in its own.
 use Prim.Native.Nat.{_-_}
 use borrow.Author.Needs.{needs}
-use Rattle.code.proofs.Turns.{SumsTo, sums-none, sums-again, sums-all}
+use Rattle.code.proofs.Packing.{UnpackedTo, unpacked-none, unpacked-again, unpacked-all}
 use Rattle.code.proofs.power_sums.Statement.{statement}
 use Rattle.code.proofs.power_sums.Tie as tie
 
 abbrev Inv-loop : tie.InvT-loop
-Inv-loop word sums₀ x₀ k₀ sums x k = SumsTo word sums x k
+Inv-loop word p₀ sums₀ k₀ p sums k = UnpackedTo word sums p k
 
 abbrev μ-loop : tie.MeasureT-loop
-μ-loop word sums₀ x₀ k₀ sums x k = 11 - k
+μ-loop word p₀ sums₀ k₀ p sums k = 10 - k
 
 loop-holds : tie.Need-loop-holds Inv-loop μ-loop
-loop-holds c = search (sums-none, needs)
+loop-holds c = search (unpacked-none, needs)
 
 loop-again : tie.Need-loop-again Inv-loop μ-loop
-loop-again c = search (sums-again, needs)
+loop-again c = search (unpacked-again, needs)
 
 returns : tie.Need-returns Inv-loop μ-loop
-returns c = search (sums-all, needs)
+returns c = search (unpacked-all, needs)
 
 pub power-sums-spec : {M : Type 1} → statement M
 power-sums-spec =
@@ -26,10 +26,12 @@ power-sums-spec =
     (tie.spec
     Inv-loop
     μ-loop
-    loop-holds
     (λ c κs. search needs)
     (λ c. search needs)
-    (λ c κs. search needs)
+    loop-holds
+    (λ c. search needs)
+    (λ c. search needs)
+    (λ c. search needs)
     (λ c. search needs)
     (λ c. search needs)
     loop-again

@@ -1,0 +1,2 @@
+-- The values of characters, a character and a block at a time.
+pub mod Steps

@@ -1,0 +1,2 @@
+-- An entry of a table of terms.
+pub mod Entries

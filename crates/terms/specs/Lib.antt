@@ -1,0 +1,2 @@
+-- What a character adds to ten power sums.
+pub mod Terms

@@ -37,7 +37,7 @@ oneWhere false = 0
 abbrev unit : ℕ → ℕ → ℕ
 unit j k = oneWhere (eqb j k)
 
--- the first ten characters of each, in lanes
+-- the first ten characters of each word, in lanes
 abbrev pub tens : List ℕ
 tens =
     847655222541583757
@@ -53,19 +53,44 @@ tens =
     ∷ 473949248277572232
     ∷ []
 
+-- all eleven; their sum S_0 is 1 in the sixth word alone
 abbrev word : ℕ → List ℕ
 word j = eleven (getD tens j 0) (unit j 5)
 
+-- a value by Horner's rule, from s on
+horner : ℕ → ℕ → List ℕ → ℕ
+horner x s [] = product s 1
+horner x s (c ∷ cs) = horner x (sum (product s x) c) cs
+
+horner-step : (x s c p v : ℕ) → sum (product (sum (product s x) c) p) v ≡ sum (product s (product x p)) (sum (product c p) v)
+horner-step x s c p v = simp Laws.ring
+
+horner-is : (x s : ℕ) (cs : List ℕ) → horner x s cs ≡ sum (product s (power x (length cs))) (valueAt x cs)
+unfolding horner valueAt power
+horner-is x s [] = sym (Laws.sum-zero (product s 1))
+horner-is x s (c ∷ cs) = horner-is x (sum (product s x) c) cs ∙ horner-step x s c (power x (length cs)) (valueAt x cs)
+
+-- the powers of α from -5 to 5
+abbrev points : List ℕ
+points = 63 ∷ 61 ∷ 57 ∷ 49 ∷ 33 ∷ 1 ∷ 2 ∷ 4 ∷ 8 ∷ 16 ∷ 32 ∷ []
+
+point-test : T (each 11 (λ k. eqb (power α (58 + k)) (getD points k 0)))
+unfolding power product shifted timesX sum
+point-test = tt
+
 -- computed: at j the word has the sum 1, at the ten others 0
-word-test : T (each 11 (λ j. each 11 (λ k. eqb (valueAt (power α (58 + k)) (word j)) (unit j k))))
-unfolding valueAt eleven listed lane total power product shifted timesX sum oneWhere
+word-test : T (each 11 (λ j. each 11 (λ k. eqb (horner (getD points k 0) 0 (word j)) (unit j k))))
+unfolding horner eleven listed lane total power product shifted timesX sum oneWhere
 word-test = tt
 
 word-value : (j k : ℕ) → j < 11 → k < 11 → valueAt (power α (58 + k)) (word j) ≡ unit j k
 word-value j k hj hk =
-    eqb→eq (valueAt (power α (58 + k)) (word j)) (unit j k)
-    (each-at 11 (λ k. eqb (valueAt (power α (58 + k)) (word j)) (unit j k))
-    (each-at 11 (λ j. each 11 (λ k. eqb (valueAt (power α (58 + k)) (word j)) (unit j k))) word-test j hj) k hk)
+    let x : ℕ = getD points k 0 in
+    ap (λ (x : ℕ). valueAt x (word j)) (eqb→eq (power α (58 + k)) x (each-at 11 (λ k. eqb (power α (58 + k)) (getD points k 0)) point-test k hk))
+    ∙ sym (horner-is x 0 (word j) ∙ ap (λ (t : ℕ). sum t (valueAt x (word j))) (Laws.zero-product (power x (length (word j)))) ∙ Laws.zero-sum (valueAt x (word j)))
+    ∙ eqb→eq (horner x 0 (word j)) (unit j k)
+    (each-at 11 (λ k. eqb (horner (getD points k 0) 0 (word j)) (unit j k))
+    (each-at 11 (λ j. each 11 (λ k. eqb (horner (getD points k 0) 0 (word j)) (unit j k))) word-test j hj) k hk)
 
 unit-same : (k : ℕ) → unit k k ≡ 1
 unfolding oneWhere
@@ -148,33 +173,47 @@ checks-remainder cs sums r h c p q =
 
 -- ---- each sum times its word
 
--- the sum over j of c_j at address i of the words, of the first n of them
-abbrev pub tensTo : List ℕ → ℕ → ℕ → ℕ
-tensTo sums n i = total n (λ j. product (lane (getD tens j 0) i) (getD sums j 0))
+times-total : (n a : ℕ) (f : ℕ → ℕ) → total n (λ i. product (f i) a) ≡ product (total n f) a
+times-total n a f =
+    total-same n (λ i. product (f i) a) (λ i. product a (f i)) (λ i l. Laws.product-comm (f i) a) ∙ total-scaled n a f ∙ Laws.product-comm a (total n f)
+
+value-11 : (x : ℕ) (w : List ℕ) → length w ≡ 11 → valueAt x w ≡ total 11 (λ i. product (getD w i 0) (power x (10 - i)))
+value-11 x w h = subst (λ (n : ℕ). valueAt x w ≡ total n (λ i. product (getD w i 0) (power x (n - 1 - i)))) h (value-total x w)
 
 module _ (sums : List ℕ) where
-  tens-lt : (n i : ℕ) → tensTo sums n i < 64
+  -- at address i, the first n sums times their words
+  abbrev pub tensTo : ℕ → ℕ → ℕ
+  tensTo n i = total n (λ j. product (lane (getD tens j 0) i) (getD sums j 0))
+
+  tens-lt : (n i : ℕ) → tensTo n i < 64
   tens-lt n i = total-lt n (λ j. product (lane (getD tens j 0) i) (getD sums j 0)) (λ j. Laws.product-lt (lane (getD tens j 0) i) (getD sums j 0))
 
-  pub tens-first : (t : ℕ) → t ≡ pack 10 (λ i. product (lane (getD tens 0 0) i) (getD sums 0 0)) → t ≡ pack 10 (tensTo sums 1)
+  pub tens-first : (t : ℕ) → t ≡ pack 10 (λ i. product (lane (getD tens 0 0) i) (getD sums 0 0)) → t ≡ pack 10 (tensTo 1)
   unfolding total
   tens-first t e =
-      e ∙ pack-same 10 (λ i. product (lane (getD tens 0 0) i) (getD sums 0 0)) (tensTo sums 1)
+      e ∙ pack-same 10 (λ i. product (lane (getD tens 0 0) i) (getD sums 0 0)) (tensTo 1)
       (λ i l. sym (Laws.zero-sum (product (lane (getD tens 0 0) i) (getD sums 0 0))))
 
-  pub tens-more : (n s t : ℕ) → s ≡ pack 10 (tensTo sums n) → t ≡ pack 10 (λ i. product (lane (getD tens n 0) i) (getD sums n 0))
-      → bitXor s t ≡ pack 10 (tensTo sums (suc n))
+  pub tens-more : (n s t : ℕ) → s ≡ pack 10 (tensTo n) → t ≡ pack 10 (λ i. product (lane (getD tens n 0) i) (getD sums n 0))
+      → bitXor s t ≡ pack 10 (tensTo (suc n))
   unfolding total
   tens-more n s t e f =
       ap₂ bitXor e f
-      ∙ xor-pack 10 (tensTo sums n) (λ i. product (lane (getD tens n 0) i) (getD sums n 0)) (tens-lt n) (λ i. Laws.product-lt (lane (getD tens n 0) i) (getD sums n 0))
+      ∙ xor-pack 10 (tensTo n) (λ i. product (lane (getD tens n 0) i) (getD sums n 0)) (tens-lt n) (λ i. Laws.product-lt (lane (getD tens n 0) i) (getD sums n 0))
 
-  module _ (ten : ℕ) (made : ten ≡ pack 10 (tensTo sums 11)) where
-    ten-lane : (i : ℕ) → i < 10 → lane ten i ≡ tensTo sums 11 i
-    ten-lane i h = ap (λ (p : ℕ). lane p i) made ∙ lane-pack 10 (tensTo sums 11) (tens-lt 11) i h
+  -- one sum of the eleven
+  one-of : (k : ℕ) → k < 11 → total 11 (λ j. product (unit j k) (getD sums j 0)) ≡ getD sums k 0 % 64
+  one-of k h =
+      total-only 11 k (λ j. product (unit j k) (getD sums j 0)) h
+      (λ j l d. ap (λ (u : ℕ). product u (getD sums j 0)) (unit-other j k d) ∙ Laws.zero-product (getD sums j 0))
+      ∙ ap (λ (u : ℕ). product u (getD sums k 0)) (unit-same k) ∙ Laws.one-product-low (getD sums k 0)
 
+  module _ (ten : ℕ) (made : ten ≡ pack 10 (tensTo 11)) where
     checks : List ℕ
     checks = eleven ten (getD sums 5 0)
+
+    ten-lane : (i : ℕ) → i < 10 → lane ten i ≡ tensTo 11 i
+    ten-lane i h = ap (λ (p : ℕ). lane p i) made ∙ lane-pack 10 (tensTo 11) (tens-lt 11) i h
 
     at-lane : (i : ℕ) → i < 10 → getD checks i 0 ≡ total 11 (λ j. product (getD (word j) i 0) (getD sums j 0))
     unfolding checks
@@ -183,23 +222,12 @@ module _ (sums : List ℕ) where
         ∙ total-same 11 (λ j. product (lane (getD tens j 0) i) (getD sums j 0)) (λ j. product (getD (word j) i 0) (getD sums j 0))
         (λ j l. ap (λ (c : ℕ). product c (getD sums j 0)) (sym (eleven-lane (getD tens j 0) (unit j 5) i h)))
 
-    -- the sum of the ten
     ten-sum : total 10 (lane ten) ≡ total 11 (λ j. product (total 10 (lane (getD tens j 0))) (getD sums j 0))
     ten-sum =
-        total-same 10 (lane ten) (tensTo sums 11) ten-lane
+        total-same 10 (lane ten) (tensTo 11) ten-lane
         ∙ total-swap 10 11 (λ i j. product (lane (getD tens j 0) i) (getD sums j 0))
         ∙ total-same 11 (λ j. total 10 (λ i. product (lane (getD tens j 0) i) (getD sums j 0))) (λ j. product (total 10 (lane (getD tens j 0))) (getD sums j 0))
-        (λ j l.
-        total-same 10 (λ i. product (lane (getD tens j 0) i) (getD sums j 0)) (λ i. product (getD sums j 0) (lane (getD tens j 0) i))
-        (λ i m. Laws.product-comm (lane (getD tens j 0) i) (getD sums j 0))
-        ∙ total-scaled 10 (getD sums j 0) (lane (getD tens j 0)) ∙ Laws.product-comm (getD sums j 0) (total 10 (lane (getD tens j 0))))
-
-    -- one sum of the eleven
-    one-of : (k : ℕ) → k < 11 → total 11 (λ j. product (unit j k) (getD sums j 0)) ≡ getD sums k 0 % 64
-    one-of k h =
-        total-only 11 k (λ j. product (unit j k) (getD sums j 0)) h
-        (λ j l d. ap (λ (u : ℕ). product u (getD sums j 0)) (unit-other j k d) ∙ Laws.zero-product (getD sums j 0))
-        ∙ ap (λ (u : ℕ). product u (getD sums k 0)) (unit-same k) ∙ Laws.one-product-low (getD sums k 0)
+        (λ j l. times-total 10 (getD sums j 0) (lane (getD tens j 0)))
 
     at-last : getD checks 10 0 ≡ total 11 (λ j. product (getD (word j) 10 0) (getD sums j 0))
     unfolding checks
@@ -214,30 +242,25 @@ module _ (sums : List ℕ) where
         ∙ sym (Laws.sum-product (total 10 (lane (getD tens j 0))) (unit j 5 % 64) (getD sums j 0))
         ∙ ap (λ (c : ℕ). product c (getD sums j 0)) (sym (eleven-last (getD tens j 0) (unit j 5))))
 
-    -- the value is the sum of those of the words
-    value-11 : (x : ℕ) (w : List ℕ) → length w ≡ 11 → valueAt x w ≡ total 11 (λ i. product (getD w i 0) (power x (10 - i)))
-    value-11 x w h = subst (λ (n : ℕ). valueAt x w ≡ total n (λ i. product (getD w i 0) (power x (n - 1 - i)))) h (value-total x w)
-
+    -- the value is the sum of the words' values, each times its sum
     checks-value : (x : ℕ) → valueAt x checks ≡ total 11 (λ j. product (valueAt x (word j)) (getD sums j 0))
     unfolding checks
     checks-value x =
         value-11 x checks (eleven-long ten (getD sums 5 0))
-        ∙ total-same 11 (λ i. product (getD checks i 0) (power x (10 - i))) (λ i. total 11 (λ j. product (getD sums j 0) (product (getD (word j) i 0) (power x (10 - i)))))
+        ∙ total-same 11 (λ i. product (getD checks i 0) (power x (10 - i))) (λ i. total 11 (λ j. product (product (getD (word j) i 0) (power x (10 - i))) (getD sums j 0)))
         (λ i h.
         ap (λ (c : ℕ). product c (power x (10 - i))) (all-eleven (λ (i : ℕ). getD checks i 0 ≡ total 11 (λ j. product (getD (word j) i 0) (getD sums j 0))) at-lane at-last i h)
-        ∙ Laws.product-comm (total 11 (λ j. product (getD (word j) i 0) (getD sums j 0))) (power x (10 - i))
-        ∙ sym (total-scaled 11 (power x (10 - i)) (λ j. product (getD (word j) i 0) (getD sums j 0)))
-        ∙ total-same 11 (λ j. product (power x (10 - i)) (product (getD (word j) i 0) (getD sums j 0))) (λ j. product (getD sums j 0) (product (getD (word j) i 0) (power x (10 - i))))
-        (λ j l. three (power x (10 - i)) (getD (word j) i 0) (getD sums j 0)))
-        ∙ total-swap 11 11 (λ i j. product (getD sums j 0) (product (getD (word j) i 0) (power x (10 - i))))
-        ∙ total-same 11 (λ j. total 11 (λ i. product (getD sums j 0) (product (getD (word j) i 0) (power x (10 - i))))) (λ j. product (valueAt x (word j)) (getD sums j 0))
+        ∙ sym (times-total 11 (power x (10 - i)) (λ j. product (getD (word j) i 0) (getD sums j 0)))
+        ∙ total-same 11 (λ j. product (product (getD (word j) i 0) (getD sums j 0)) (power x (10 - i))) (λ j. product (product (getD (word j) i 0) (power x (10 - i))) (getD sums j 0))
+        (λ j l. exchanged (getD (word j) i 0) (getD sums j 0) (power x (10 - i))))
+        ∙ total-swap 11 11 (λ i j. product (product (getD (word j) i 0) (power x (10 - i))) (getD sums j 0))
+        ∙ total-same 11 (λ j. total 11 (λ i. product (product (getD (word j) i 0) (power x (10 - i))) (getD sums j 0))) (λ j. product (valueAt x (word j)) (getD sums j 0))
         (λ j l.
-        total-scaled 11 (getD sums j 0) (λ i. product (getD (word j) i 0) (power x (10 - i)))
-        ∙ ap (product (getD sums j 0)) (sym (value-11 x (word j) (eleven-long (getD tens j 0) (unit j 5))))
-        ∙ Laws.product-comm (getD sums j 0) (valueAt x (word j)))
+        times-total 11 (getD sums j 0) (λ i. product (getD (word j) i 0) (power x (10 - i)))
+        ∙ ap (λ (v : ℕ). product v (getD sums j 0)) (sym (value-11 x (word j) (eleven-long (getD tens j 0) (unit j 5)))))
       where
-        three : (p c e : ℕ) → product p (product c e) ≡ product e (product c p)
-        three p c e = simp Laws.ring
+        exchanged : (a b c : ℕ) → product (product a b) c ≡ product (product a c) b
+        exchanged a b c = simp Laws.ring
 
     pub tens-with : ChecksWith sums (eleven ten (getD sums 5 0))
     unfolding checks

@@ -7,7 +7,7 @@ use Rattle.field.specs.Field.{sum, total}
 use Rattle.lanes.specs.Lanes.{lane}
 use Rattle.code.specs.Word.{Characters, powerSum, listed}
 
--- the eleven power sums of a word that holds 52 zeros and these checks, S_-5 first; of each sum the low six bits count
+-- checks with given power sums, S_-5 first: the word of 52 zeros and these checks has them; of each sum the low six bits count
 pub record ChecksWith (sums checks : List ℕ) : Type 0 where
   pub long : length checks ≡ 11
   pub characters : Characters checks

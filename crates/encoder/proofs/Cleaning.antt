@@ -36,7 +36,7 @@ divides-clean w h c g = divided-clean w h c (ap leftOf (g .is) ∙ multiple-left
 
 -- ---- a clean word ends in the remainder of its first 52 characters, for no other clean word begins with them
 
-clean-ends : (cs r : List ℕ) → length cs ≡ 52 → Characters cs → Clean (cs ++ r) → r ≡ remainder cs
+pub clean-ends : (cs r : List ℕ) → length cs ≡ 52 → Characters cs → Clean (cs ++ r) → r ≡ remainder cs
 clean-ends cs r hc h c =
     let whole = clean-remainder cs hc h in
     let d = distance-take 52 (cs ++ r) (cs ++ remainder cs) (take-at cs r 52 hc ∙ sym (take-at cs (remainder cs) 52 hc)) in

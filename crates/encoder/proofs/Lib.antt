@@ -3,8 +3,9 @@ pub mod Division
 pub mod Quotients
 pub mod Stepping
 pub mod Encoding
-pub mod Turns
 pub mod Cleaning
+pub mod Interpolation
+pub mod Turns
 pub mod Running
 pub mod Theorems
 pub mod Bench

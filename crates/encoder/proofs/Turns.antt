@@ -4,24 +4,30 @@ use mathlib.Core.Bool.{Bool, true, false}
 use mathlib.Core.Logic.{inl, inr}
 use mathlib.Core.List.{List, [], _∷_, _++_, append-nil, append-assoc}
 use Prim.Native.Nat.{ℕ, suc, _+_, _-_, _/_, _%_, _<_, _≤_}
+use native.Mathlib.Nat.{zero-add}
 use native.Mathlib.Numerals.{add-one}
 use native.Mathlib.Omega.{arith}
 use borrow.Author.Count.{below-more}
 use lib.Bits.{bitXor}
 use lib.ListN.{length, getD, set, take, drop, replicate, length-append, length-take, length-drop, length-set, List·getD-eq-default, drop-of-length-le}
-use lib.Seq.{ext-getD, getD-set-same, getD-set-other, take-suc, take-all, take-length, take-at, drop-at, set-at}
-use Rattle.field.specs.Field.{sum, product}
+use lib.Seq.{ext-getD, getD-set-same, getD-set-other, take-length, take-at, set-at}
+use Rattle.field.specs.Field.{sum, product, total}
 use Rattle.field.proofs.Laws
+use Rattle.lanes.specs.Lanes.{lane}
+use Rattle.lanes.proofs.Laws.{lane-zero, lane-suc}
 use Rattle.code.specs.Word.{Characters}
+use Rattle.code.specs.Inside.{PowerSums}
 use Rattle.refusal.specs.Promise.{Tells}
 use Rattle.encoder.specs.declared.Register.{Register}
 use Rattle.encoder.specs.Division.{remainder}
 use Rattle.encoder.specs.Register.{stepped, checksOf}
 use Rattle.encoder.specs.Promises.{LineWith, Encodes, Steps, Checks}
+use Rattle.encoder.specs.Interpolation.{ChecksWith, eleven}
 use Rattle.encoder.specs.Inside.{information, encoded}
 use Rattle.encoder.proofs.Division.{below, lower}
-use Rattle.encoder.proofs.Stepping.{stepped-long, stepped-get, remainder-none, remainder-more, checks-are}
-use Rattle.encoder.proofs.Encoding.{encoded-line}
+use Rattle.encoder.proofs.Stepping.{stepped-long, stepped-get, checks-are}
+use Rattle.encoder.proofs.Encoding.{information-long, information-characters, encoded-line}
+use Rattle.encoder.proofs.Interpolation.{eleven-long, eleven-lane, eleven-last, all-eleven, checks-remainder}
 
 -- ---- a step of the division
 
@@ -78,20 +84,6 @@ divided-all held c feedback left i t h d e =
     ext-getD 0 (set left 10 t) (stepped held c) (long ∙ sym (stepped-long held c (d .long)))
     (λ k b. divided-at held c feedback left 10 t (subst (DividedTo held c feedback left) j d) v k (omega arith))
 
--- ---- the remainder, a character at a time
-
-pub remainder-start : (s held : List ℕ) → held ≡ replicate 11 0 → held ≡ remainder (take 0 s)
-remainder-start s held e = e ∙ sym remainder-none
-
-pub remainder-again : (s held left : List ℕ) (i : ℕ) → i < length s → held ≡ remainder (take i s) → left ≡ stepped held (getD s i 0)
-    → left ≡ remainder (take (i + 1) s)
-remainder-again s held left i h e f =
-    f ∙ ap (λ (l : List ℕ). stepped l (getD s i 0)) e ∙ sym (remainder-more (take i s) (getD s i 0))
-    ∙ ap remainder (sym (take-suc s i 0 h)) ∙ ap (λ (n : ℕ). remainder (take n s)) (sym (add-one i))
-
-pub remainder-all : (s held : List ℕ) (i : ℕ) → length s ≤ i → held ≡ remainder (take i s) → held ≡ remainder s
-remainder-all s held i h e = e ∙ ap remainder (take-all i s h)
-
 -- ---- the marks
 
 pub marked-is : (held : List ℕ) → length held ≡ 11
@@ -108,36 +100,78 @@ marked-is held h =
     getD-set-other one 3 10 (bitXor (getD one 3 0) 8) 0 (λ q. omega arith) ∙ getD-set-other held 0 10 a 0 (λ q. omega arith) in
     ap₂ (λ (x y : ℕ). set (set one 3 (bitXor x 8)) 10 (bitXor y 1)) b c ∙ sym (checks-are held h)
 
+-- ---- ten lanes unpacked
+
+-- i lanes are out, and rest holds those after them; the last check is there
+pub record UnpackedTo (ten s : ℕ) (checks : List ℕ) (rest i : ℕ) : Type 0 where
+  pub most : i ≤ 10
+  pub long : length checks ≡ 11
+  pub last : getD checks 10 0 ≡ sum (total 10 (lane ten)) (s % 64)
+  pub after : (k : ℕ) → lane rest k ≡ lane ten (i + k)
+  pub passed : (k : ℕ) → k < i → getD checks k 0 ≡ lane ten k
+
+pub unpacked-none : (ten s t : ℕ) (checks : List ℕ) → length checks ≡ 11 → t ≡ total 10 (lane ten)
+    → UnpackedTo ten s (set checks 10 (bitXor t (s % 64))) ten 0
+unfolding sum
+unpacked-none ten s t checks h e =
+    record {
+      most = omega arith;
+      long = length-set checks 10 (bitXor t (s % 64)) ∙ h;
+      last = getD-set-same checks 10 (bitXor t (s % 64)) 0 (omega arith) ∙ ap (λ (n : ℕ). bitXor n (s % 64)) e;
+      after = λ k. ap (lane ten) (sym (zero-add k));
+      passed = λ k b. absurd (omega arith);
+    }
+
+pub unpacked-again : (ten s : ℕ) (checks : List ℕ) (rest i : ℕ) → i < 10 → UnpackedTo ten s checks rest i
+    → UnpackedTo ten s (set checks i (rest % 64)) (rest / 64) (i + 1)
+unpacked-again ten s checks rest i h u =
+    record {
+      most = omega arith;
+      long = length-set checks i (rest % 64) ∙ u .long;
+      last = getD-set-other checks i 10 (rest % 64) 0 (λ q. omega arith) ∙ u .last;
+      after = λ k. sym (lane-suc rest k) ∙ u .after (suc k) ∙ ap (lane ten) (omega arith);
+      passed = below-more (λ (k : ℕ). getD (set checks i (rest % 64)) k 0 ≡ lane ten k) i
+          (λ k m. getD-set-other checks i k (rest % 64) 0 (λ q. omega arith) ∙ u .passed k m)
+          (getD-set-same checks i (rest % 64) 0 (let l : length checks ≡ 11 = u .long in omega arith)
+          ∙ sym (lane-zero rest) ∙ u .after 0 ∙ ap (lane ten) (omega arith));
+    }
+
+pub unpacked-all : (ten s : ℕ) (checks : List ℕ) (rest i : ℕ) → 10 ≤ i → UnpackedTo ten s checks rest i → checks ≡ eleven ten s
+unpacked-all ten s checks rest i h u =
+    ext-getD 0 checks (eleven ten s) (u .long ∙ sym (eleven-long ten s))
+    (λ k b.
+    all-eleven (λ (k : ℕ). getD checks k 0 ≡ getD (eleven ten s) k 0)
+    (λ k l. u .passed k (omega arith) ∙ sym (eleven-lane ten s k l)) (u .last ∙ sym (eleven-last ten s)) k (subst (λ (n : ℕ). k < n) (u .long) b))
+
 -- ---- the information characters, copied and stored
 
-pub information-copied : (t copied : List ℕ) (n : ℕ) → length t ≡ 50 → copied ≡ take (length t) t ++ drop (length t) (replicate 52 0)
-    → set (set copied 50 (n / 64)) 51 (n % 64) ≡ information t n
+pub information-copied : (t copied : List ℕ) (n : ℕ) → length t ≡ 50 → copied ≡ take (length t) t ++ drop (length t) (replicate 63 0)
+    → set (set copied 50 (n / 64)) 51 (n % 64) ≡ information t n ++ replicate 11 0
 unfolding information
 information-copied t copied n h e =
     ap (λ (l : List ℕ). set (set l 50 (n / 64)) 51 (n % 64))
-    (e ∙ ap₂ (λ (l : List ℕ) (m : ℕ). l ++ drop m (replicate 52 0)) (take-length t) h)
-    ∙ ap (λ (l : List ℕ). set l 51 (n % 64)) (set-at t 0 (0 ∷ []) (n / 64) 50 h)
-    ∙ ap (λ (l : List ℕ). set l 51 (n % 64)) (sym (append-assoc t (n / 64 ∷ []) (0 ∷ [])))
-    ∙ set-at (t ++ n / 64 ∷ []) 0 [] (n % 64) 51 (omega (arith, length-append t (n / 64 ∷ [])))
-    ∙ append-assoc t (n / 64 ∷ []) (n % 64 ∷ [])
+    (e ∙ ap₂ (λ (l : List ℕ) (m : ℕ). l ++ drop m (replicate 63 0)) (take-length t) h)
+    ∙ ap (λ (l : List ℕ). set l 51 (n % 64)) (set-at t 0 (replicate 12 0) (n / 64) 50 h)
+    ∙ ap (λ (l : List ℕ). set l 51 (n % 64)) (sym (append-assoc t (n / 64 ∷ []) (replicate 12 0)))
+    ∙ set-at (t ++ n / 64 ∷ []) 0 (replicate 11 0) (n % 64) 51 (omega (arith, length-append t (n / 64 ∷ [])))
+    ∙ append-assoc t (n / 64 ∷ []) (n % 64 ∷ replicate 11 0)
+    ∙ sym (append-assoc t (n / 64 ∷ n % 64 ∷ []) (replicate 11 0))
 
--- ---- the output: its first 52 bytes, then the others
+-- ---- the output: all its 63 bytes, then the last eleven again
 
-pub both-written : (information checks old out part : List ℕ) → length information ≡ 52 → length checks ≡ 11 → length old ≡ 63
-    → out ≡ take (length information) information ++ drop (length information) old
+pub both-written : (word checks old out part : List ℕ) → length word ≡ 63 → length checks ≡ 11 → length old ≡ 63
+    → out ≡ take (length word) word ++ drop (length word) old
     → part ≡ take (length checks) checks ++ drop (length checks) (take (length out - 52) (drop 52 out))
-    → take 52 out ++ (part ++ drop (length out - 52) (drop 52 out)) ≡ information ++ checks
-both-written information checks old out part hi hc ho e f =
-    let a : out ≡ information ++ drop 52 old =
-    e ∙ ap₂ (λ (l : List ℕ) (m : ℕ). l ++ drop m old) (take-length information) hi in
-    let b : length (drop 52 out) ≡ 11 =
-    ap (λ (l : List ℕ). length (drop 52 l)) a ∙ ap length (drop-at information (drop 52 old) 52 hi) ∙ length-drop 52 old ∙ ap (λ (n : ℕ). n - 52) ho in
-    let m : length out - 52 ≡ 11 = sym (length-drop 52 out) ∙ b in
+    → take 52 out ++ (part ++ drop (length out - 52) (drop 52 out)) ≡ take 52 word ++ checks
+both-written word checks old out part hw hc ho e f =
+    let a : out ≡ word =
+    e ∙ ap₂ _++_ (take-length word) (drop-of-length-le old {i = length word} (omega arith)) ∙ append-nil word in
+    let m : length out ≡ 63 = ap length a ∙ hw in
     let p : part ≡ checks =
-    f ∙ ap₂ _++_ (take-length checks) (drop-of-length-le (take (length out - 52) (drop 52 out)) {i = length checks} (omega (arith, length-take (length out - 52) (drop 52 out))))
+    f ∙ ap₂ _++_ (take-length checks)
+    (drop-of-length-le (take (length out - 52) (drop 52 out)) {i = length checks} (omega (arith, length-take (length out - 52) (drop 52 out))))
     ∙ append-nil checks in
-    ap₂ _++_ (ap (take 52) a ∙ take-at information (drop 52 old) 52 hi)
-    (ap₂ _++_ p (drop-of-length-le (drop 52 out) {i = length out - 52} (omega arith)) ∙ append-nil checks)
+    ap₂ _++_ (ap (take 52) a) (ap₂ _++_ p (drop-of-length-le (drop 52 out) {i = length out - 52} (omega (arith, length-drop 52 out))) ∙ append-nil checks)
 
 -- ---- the ways out of encoding a line
 
@@ -158,12 +192,16 @@ module _ (t : List ℕ) (n : ℕ) (old : List ℕ) where
   unfolding Encodes
   number-over b h r s e o = (inl (h, inl (r, inl (s .holds e, inr (o, refl)))), (refl, refl))
 
-  pub line-written : (b : Bool) (i r k new : List ℕ) → length t ≡ 50 → length old ≡ 63 → Tells (Characters t) b → b ≡ true → n ≤ 4095
-      → i ≡ information t n → r ≡ remainder i → k ≡ checksOf r → new ≡ i ++ k → Encodes t n old (0 ∷ []) new
+  pub line-written : (b : Bool) (w s r k new : List ℕ) → length t ≡ 50 → length old ≡ 63 → Tells (Characters t) b → b ≡ true → n ≤ 4095
+      → w ≡ information t n ++ replicate 11 0 → PowerSums w s → ChecksWith s r → k ≡ checksOf r → new ≡ take 52 w ++ k → Encodes t n old (0 ∷ []) new
   unfolding Encodes encoded
-  line-written b i r k new h o s e m ei er ek en =
-      let same : new ≡ encoded t n = en ∙ ap₂ _++_ ei (ek ∙ ap checksOf (er ∙ ap remainder ei)) in
-      (inl (h, inl (o, inl (s .holds e, inl (m, refl)))), (refl, subst (LineWith t n) (sym same) (encoded-line t n h (s .holds e) m)))
+  line-written b w s r k new h o c e m ew ps cw ek en =
+      let i : List ℕ = information t n in
+      let long : length i ≡ 52 = information-long t n h in
+      let left : r ≡ remainder i =
+      checks-remainder i s r long (information-characters t n (c .holds e) m) (subst (λ (l : List ℕ). PowerSums l s) ew ps) cw in
+      let same : new ≡ encoded t n = en ∙ ap₂ _++_ (ap (take 52) ew ∙ take-at i (replicate 11 0) 52 long) (ek ∙ ap checksOf left) in
+      (inl (h, inl (o, inl (c .holds e, inl (m, refl)))), (refl, subst (LineWith t n) (sym same) (encoded-line t n h (c .holds e) m)))
 
 -- ---- the ways out of a step
 

@@ -2,10 +2,10 @@
 ghost use mathlib.Core.Path.{_≡_};
 ghost use mathlib.Core.List.{_++_};
 ghost use Prim.Native.Nat.{_≤_};
-ghost use lib.ListN.{length};
-ghost use Rattle.encoder.specs.Division.{remainder};
+ghost use lib.ListN.{length, getD, take, replicate};
 ghost use Rattle.encoder.specs.Register.{empty, stepped, checksOf};
 ghost use Rattle.encoder.specs.Promises.{encodingNumbers, Encodes, stepNumbers, Steps, checkNumbers, Checks};
+ghost use Rattle.encoder.specs.Interpolation.{ChecksWith, eleven};
 ghost use Rattle.encoder.specs.Inside.{information};
 use code::in_range;
 use field::times;
@@ -65,18 +65,45 @@ fn divided(held: [u8; 11], c: u8) -> [u8; 11]
     left
 }
 
-// What the division leaves of x^11 times the characters' polynomial.
-fn remainder_of(s: &[u8]) -> [u8; 11]
-    ensures { λ r. ⌜ r ≡ remainder (now (s .entry)) ⌝ }
+// The eleven checks with these power sums, S_-5 first.
+fn checks_from(sums: [u8; 11]) -> [u8; 11]
+    ensures { λ r. ⌜ ChecksWith sums r ⌝ }
 {
-    let mut held = [0u8; 11];
+    unpacked(ten_checks(sums), sums[5])
+}
+
+// The first ten of them, in lanes: each sum times the checks that have the sum 1 there and 0 at the ten others.
+fn ten_checks(sums: [u8; 11]) -> u64
+    ensures { λ r. ⌜ ChecksWith sums (eleven r (getD sums 5 0)) ⌝ }
+{
+    let mut ten = lanes::scale_constant(847655222541583757, sums[0]);
+    ten = ten ^ lanes::scale_constant(808465694602536421, sums[1]);
+    ten = ten ^ lanes::scale_constant(315288432424983327, sums[2]);
+    ten = ten ^ lanes::scale_constant(230181143295902852, sums[3]);
+    ten = ten ^ lanes::scale_constant(209917650917265201, sums[4]);
+    ten = ten ^ lanes::scale_constant(716294100043368959, sums[5]);
+    ten = ten ^ lanes::scale_constant(882425377852270741, sums[6]);
+    ten = ten ^ lanes::scale_constant(197617448352340711, sums[7]);
+    ten = ten ^ lanes::scale_constant(118594285310951352, sums[8]);
+    ten = ten ^ lanes::scale_constant(361453399640989311, sums[9]);
+    ten = ten ^ lanes::scale_constant(473949248277572232, sums[10]);
+    ten
+}
+
+// The ten, and the eleventh: the sum of all is S_0.
+fn unpacked(ten: u64, zeroth: u8) -> [u8; 11]
+    ensures { λ r. ⌜ r ≡ eleven ten zeroth ⌝ }
+{
+    let mut checks = [0u8; 11];
+    checks[10] = lanes::sum_of(ten) ^ (zeroth % 64);
+    let mut rest = ten;
     let mut i: usize = 0;
-    while i < s.len() {
-        let left = divided(held, s[i]);
-        held = left;
+    while i < 10 {
+        checks[i] = (rest % 64) as u8;
+        rest = rest / 64;
         i += 1;
     }
-    held
+    checks
 }
 
 // What is held, with the marks of addresses 52, 55 and 62.
@@ -90,25 +117,25 @@ fn marked(held: [u8; 11]) -> [u8; 11]
     checks
 }
 
-// The characters of addresses 0 to 51: the text, the high six bits of the number, the low six.
-fn information_of(text: &[u8], number: u16) -> [u8; 52]
+// The characters of addresses 0 to 51, the text, the high six bits of the number, the low six, and eleven zeros.
+fn information_of(text: &[u8], number: u16) -> [u8; 63]
     requires { ⌜ length (now text) ≡ 50 ⌝ }
     requires { ⌜ number ≤ 4095 ⌝ }
-    ensures { λ r. ⌜ r ≡ information (now (text .entry)) number ⌝ }
+    ensures { λ r. ⌜ r ≡ information (now (text .entry)) number ++ replicate 11 0 ⌝ }
 {
-    let mut characters = [0u8; 52];
+    let mut characters = [0u8; 63];
     bytes::copy(text, &mut characters);
     characters[50] = (number / 64) as u8;
     characters[51] = (number % 64) as u8;
     characters
 }
 
-// Writes a whole line.
-fn write_line(information: [u8; 52], checks: [u8; 11], output: &mut [u8])
+// Writes a whole line: the first 52 characters of a word, and the checks.
+fn write_line(word: [u8; 63], checks: [u8; 11], output: &mut [u8])
     requires { ⌜ length (now output) ≡ 63 ⌝ }
-    ensures { λ _. ⌜ now (output .exit) ≡ information ++ checks ⌝ }
+    ensures { λ _. ⌜ now (output .exit) ≡ take 52 word ++ checks ⌝ }
 {
-    bytes::copy(&information, output);
+    bytes::copy(&word, output);
     bytes::copy(&checks, &mut output[52..]);
 }
 
@@ -128,9 +155,9 @@ pub fn encode_line(text: &[u8], number: u16, output: &mut [u8]) -> LineEncoding
     if number > 4095 {
         return LineEncoding::Refused(Refusal::NumberOver);
     }
-    let information = information_of(text, number);
-    let checks = marked(remainder_of(&information));
-    write_line(information, checks, output);
+    let word = information_of(text, number);
+    let checks = marked(checks_from(code::power_sums(&word)));
+    write_line(word, checks, output);
     LineEncoding::Written
 }
 

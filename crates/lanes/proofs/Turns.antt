@@ -82,7 +82,7 @@ one-bit : (s a b n : ℕ) → sum (sum s (b % 2 * a)) (shifted n (timesX a) (b /
 unfolding sum shifted
 one-bit s a b n = xor-assoc s (b % 2 * a) (shifted n (timesX a) (b / 2))
 
-chosen-lt : (b a : ℕ) → a < 64 → b % 2 * a < 64
+pub chosen-lt : (b a : ℕ) → a < 64 → b % 2 * a < 64
 chosen-lt b a h = bit-cases (λ (x : ℕ). x * a < 64) (omega arith) (omega arith) b
 
 module _ (p : ℕ) (B C : ℕ → ℕ) (a s i t a′ : ℕ) (h : i < 6) (l : LanesTo p B C a s i) (ea : a′ ≡ pack 10 (λ k. timesX (lane a k)))

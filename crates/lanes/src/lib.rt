@@ -1,5 +1,7 @@
 // Ten elements at once, in six-bit lanes of one number: x times each, each times one element, and lane by lane.
 ghost use mathlib.Core.Path.{_≡_};
+ghost use Prim.Native.Nat.{_*_, _/_, _%_};
+ghost use lib.Bits.{bitXor};
 ghost use Rattle.field.specs.Field.{timesX, product, total};
 ghost use Rattle.lanes.specs.Lanes.{pack, lane};
 
@@ -37,6 +39,35 @@ pub fn scale(p: u64, f: u8) -> u64
         i += 1;
     }
     s
+}
+
+// Each of ten lanes times one element, as `scale`: where the lanes are a constant, both choices become tables.
+pub fn scale_constant(p: u64, f: u8) -> u64
+    ensures { λ r. ⌜ r ≡ pack 10 (λ k. product (lane p k) f) ⌝ }
+{
+    let a = p % TEN_LANES;
+    let b = doubled(a);
+    let c = doubled(b);
+    let d = doubled(c);
+    let e = doubled(d);
+    let g = doubled(e);
+    chosen(f, a, b, c) ^ chosen(f / 8, d, e, g)
+}
+
+// The exclusive or of those of three numbers that the lowest three bits of k choose.
+fn chosen(k: u8, a: u64, b: u64, c: u64) -> u64
+    ensures { λ r. ⌜ r ≡ bitXor (k % 2 * a) (bitXor (k / 2 % 2 * b) (k / 2 / 2 % 2 * c)) ⌝ }
+{
+    match k % 8 {
+        0 => 0,
+        1 => a,
+        2 => b,
+        3 => a ^ b,
+        4 => c,
+        5 => a ^ c,
+        6 => b ^ c,
+        _ => a ^ (b ^ c),
+    }
 }
 
 // Ten products, lane by lane: the lowest bit of each lane of b, spread over the lane, chooses that lane of a.

@@ -1,4 +1,4 @@
--- Each refusal by its own test, in the paper's order; and the line by the remainder and the marks.
+-- Each refusal by its own test, in the paper's order; and the line by the checks with its power sums, and the marks.
 use Prim.Native.Nat.{_≤_}
 use native.Mathlib.Omega.{arith}
 use borrow.Author.Needs.{needs}
@@ -35,6 +35,7 @@ encode-line-spec =
     returns-4
     (λ c κs. search needs)
     (λ c. search needs)
+    (λ c κs. search needs)
     (λ c κs. search needs)
     (λ c κs. search needs)
     (λ c κs. search needs)

@@ -1,5 +1,5 @@
 -- What is proved of words and lines, in the paper's order: the address rule, the distance of 12, the line near a word, text and number, turning and reversing.
-use mathlib.Core.Path.{_≡_, sym, _∙_}
+use mathlib.Core.Path.{_≡_, sym, ap₂, _∙_}
 use mathlib.Core.Bool.{Bool}
 use mathlib.Core.Logic.{⊎-elim}
 use mathlib.Core.List.{List}
@@ -14,7 +14,9 @@ use Rattle.field.proofs.Laws
 use Rattle.polynomial.specs.Sums.{weight}
 use Rattle.code.specs.Word.{powerSum, Clean, marks, Line, text, number, distance, turned, reversed}
 use Rattle.code.specs.Promises.{TellsLine}
+use Rattle.code.specs.declared.PackedSums.{PackedSums}
 use Rattle.code.specs.Inside.{PowerSums}
+use Rattle.code.specs.Packed.{Packed}
 use Rattle.code.proofs.Sums.{powerSum-lt}
 use Rattle.code.proofs.Distances
 use Rattle.code.proofs.Lines.{marks-line, line-long}
@@ -108,3 +110,7 @@ one-line-verdict w = one-verdict (Line w)
 pub one-list-of-sums : (w r s : List ℕ) → PowerSums w r → PowerSums w s → r ≡ s
 one-list-of-sums w r s p q =
     ext-getD 0 r s (p .long ∙ sym (q .long)) (λ k h. let l = p .long in p .sum-at k (omega arith) ∙ sym (q .sum-at k (omega arith)))
+
+pub one-packed : (w : List ℕ) (r s : PackedSums) → Packed w r → Packed w s → r ≡ s
+one-packed w r s p q =
+    ap₂ (λ (o m : ℕ). record { outer = o; middle = m }) (p .outer ∙ sym (q .outer)) (p .middle ∙ sym (q .middle))

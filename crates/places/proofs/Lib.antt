@@ -1,2 +1,3 @@
--- An entry of each table.
+-- An entry of each table, and that each promise allows one answer.
 pub mod Entries
+pub mod Theorems

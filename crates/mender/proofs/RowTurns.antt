@@ -261,13 +261,13 @@ pub rows-cleared-none : (x : List ℕ) (j p : ℕ) → length x ≡ 6 → RowsCl
 rows-cleared-none x j p w = record { long = w; before = λ k l. refl; done = λ k l b. absurd (omega arith); rest = λ k l. refl }
 
 pub rows-cleared-again : (x : List ℕ) (j p : ℕ) (r low high : List ℕ) (i d u f : ℕ) → p < i → i < 6 → d ≡ inverse (lane (getD x p 0) j) → u ≡ lane (getD r i 0) j
-    → f ≡ product u d → Tables (getD x p 0) low high → RowsClearedTo x j p r i
+    → f ≡ product d u → Tables (getD x p 0) low high → RowsClearedTo x j p r i
     → RowsClearedTo x j p (set r i (bitXor (bitXor (getD r i 0) (getD low (f % 8) 0)) (getD high (f / 8) 0))) (i + 1)
 rows-cleared-again x j p r low high i d u f hp h ed eu ef t a =
     let v : ℕ = bitXor (bitXor (getD r i 0) (getD low (f % 8) 0)) (getD high (f / 8) 0) in
     let was : getD r i 0 ≡ getD x i 0 = a .rest i (omega arith) in
-    let small : f < 64 = subst (λ (n : ℕ). n < 64) (sym ef) (Laws.product-lt u d) in
-    let same : f ≡ factor x j p i = ef ∙ ap₂ product (eu ∙ ap (λ (w : ℕ). lane w j) was) ed in
+    let small : f < 64 = subst (λ (n : ℕ). n < 64) (sym ef) (Laws.product-lt d u) in
+    let same : f ≡ factor x j p i = ef ∙ Laws.product-comm d u ∙ ap₂ product (eu ∙ ap (λ (w : ℕ). lane w j) was) ed in
     record {
       long = length-set r i v ∙ a .long;
       before = λ k l. getD-set-other r i k v 0 (λ q. omega arith) ∙ a .before k l;

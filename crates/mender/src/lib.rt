@@ -458,7 +458,7 @@ fn row_cleared(mut x: [u64; 6], j: usize, p: usize) -> [u64; 6]
     let high = multiples(lanes::scale(a, 8));
     let mut i = p + 1;
     while i < 6 {
-        let f = field::times(lane_of(x[i], j), inverse);
+        let f = field::times(inverse, lane_of(x[i], j));
         x[i] = x[i] ^ low[(f % 8) as usize] ^ high[(f / 8) as usize];
         i += 1;
     }

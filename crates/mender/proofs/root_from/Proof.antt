@@ -5,9 +5,6 @@ use Rattle.mender.proofs.Rooting.{no-more, next-root, trailing-fits, in
 use Rattle.mender.proofs.root_from.Statement.{statement}
 use Rattle.mender.proofs.root_from.Tie as tie
 
-shr-rest : tie.Need-shr-rest
-shr-rest c = search needs
-
 returns : tie.Need-returns
 returns c = search (no-more, needs)
 
@@ -21,4 +18,4 @@ returns-2 : tie.Need-returns-2
 returns-2 c = search (next-root, needs)
 
 pub root-from-spec : {M : Type 1} → statement M
-root-from-spec = tie.close (tie.spec shr-rest returns cast-result add-result returns-2)
+root-from-spec = tie.close (tie.spec (λ c. search needs) returns cast-result add-result returns-2)

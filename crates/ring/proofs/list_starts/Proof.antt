@@ -1,4 +1,4 @@
--- The loop keeps that the starts below this one are listed, so that whatever lists the rest completes the list, and that the marks' sums are those of this start.
+-- `ring::list_starts` meets its contract: the loop keeps that the starts below this one are listed, so that whatever lists the rest completes the list, and that the marks' sums are those of this start.
 use native.Mathlib.Omega.{arith}
 use borrow.Author.Needs.{needs}
 use mathlib.Core.Logic.{⊎-elim}

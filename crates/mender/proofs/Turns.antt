@@ -180,12 +180,7 @@ summed-turn n u v was r k x h a e =
       rest = λ i l. getD-set-other r k i x 0 (λ q. omega arith) ∙ a .rest i (omega arith);
     }
 
--- the array holds the first list, or the second
-pub summed-first : (n : ℕ) (u v r : List ℕ) (k : ℕ) → k < n → SummedTo n u v u r k → SummedTo n u v u (set r k (bitXor (getD r k 0) (getD v k 0))) (k + 1)
-unfolding sum
-summed-first n u v r k h a =
-    summed-turn n u v u r k (bitXor (getD r k 0) (getD v k 0)) h a (ap (λ (t : ℕ). sum t (getD v k 0)) (a .rest k (omega arith)))
-
+-- the array holds the second list
 pub summed-second : (n : ℕ) (u v r : List ℕ) (k : ℕ) → k < n → SummedTo n u v v r k → SummedTo n u v v (set r k (bitXor (getD u k 0) (getD r k 0))) (k + 1)
 unfolding sum
 summed-second n u v r k h a =

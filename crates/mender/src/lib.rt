@@ -329,19 +329,6 @@ fn agree(s: [u8; 11], t: [u8; 11], c: usize) -> bool
     true
 }
 
-// Two lists of sums added.
-pub fn sums_added(u: [u8; 11], v: [u8; 11]) -> [u8; 11]
-    ensures { λ r. ⌜ r ≡ added u v ⌝ }
-{
-    let mut r = u;
-    let mut k: usize = 0;
-    while k < 11 {
-        r[k] = r[k] ^ v[k];
-        k += 1;
-    }
-    r
-}
-
 // A word and a pattern of errors added.
 fn word_added(word: &[u8], pattern: [u8; 63]) -> [u8; 63]
     requires { ⌜ length (now word) ≡ 63 ⌝ }

@@ -17,7 +17,7 @@ use Rattle.polynomial.specs.Polynomial.{polyAt}
 use Rattle.planes.specs.declared.Planes.{Planes}
 use Rattle.planes.specs.Roots.{RootsOf}
 use Rattle.planes.specs.Slices.{bitAt, ofBits, elementAt, Spread, Everywhere, Doubled, Added, OnlyAt, NextBit, PlaceMultiplied, ZerosOf}
-use Rattle.planes.specs.Crossed.{Crossed}
+use Rattle.planes.specs.Crossed.{Crossed, Squared}
 use Rattle.planes.proofs.Bits.{xor-bit, and-bit, or-between, Between, low-bit, of-same, of-xor, of-lt, of-scaled, of-timesX}
 
 pub element-lt : (v : Planes) (l : ℕ) → elementAt v l < 64
@@ -186,6 +186,74 @@ multiplied v w s5 s4 s3 s2 s1 r h5 h4 h3 h2 h1 h0 l =
 pub crossed-planes : (a x b y s t r : Planes) → ((l : ℕ) → elementAt s l ≡ product (elementAt a l) (elementAt x l))
     → ((l : ℕ) → elementAt t l ≡ product (elementAt b l) (elementAt y l)) → Added s t r → Crossed a x b y r
 crossed-planes a x b y s t r p q h = record { at = λ l. h .at l ∙ ap₂ sum (p l) (q l) }
+
+-- ---- the square
+
+-- what the bits of a number below 64 become
+squareOf : ℕ → ℕ
+squareOf u =
+    ofBits (bitXor (u % 2) (u / 8 % 2)) (u / 8 % 2) (bitXor (u / 2 % 2) (u / 16 % 2)) (u / 16 % 2) (bitXor (u / 4 % 2) (u / 32 % 2)) (u / 32 % 2)
+
+-- computed at 64 numbers
+square-test : T (each 64 (λ u. eqb (squareOf u) (product u u)))
+unfolding squareOf product shifted timesX sum
+square-test = tt
+
+square-is : (u : ℕ) → u < 64 → squareOf u ≡ product u u
+square-is u h = eqb→eq (squareOf u) (product u u) (each-at 64 (λ u. eqb (squareOf u) (product u u)) square-test u h)
+
+above : (h x : ℕ) → (h * 2 + x % 2) / 2 ≡ h
+above h x = omega arith
+
+lowest : (h x : ℕ) → (h * 2 + x % 2) % 2 ≡ x % 2
+lowest h x = omega arith
+
+of-square : (a b c d e f : ℕ) → ofBits (bitXor (a % 2) (d % 2)) (d % 2) (bitXor (b % 2) (e % 2)) (e % 2) (bitXor (c % 2) (f % 2)) (f % 2)
+    ≡ product (ofBits (a % 2) (b % 2) (c % 2) (d % 2) (e % 2) (f % 2)) (ofBits (a % 2) (b % 2) (c % 2) (d % 2) (e % 2) (f % 2))
+unfolding squareOf
+of-square a b c d e f =
+    let half : ℕ → ℕ = λ x. x / 2 in
+    let low : ℕ → ℕ = λ x. x % 2 in
+    let h4 : ℕ = f % 2 * 2 + e % 2 in
+    let h3 : ℕ = h4 * 2 + d % 2 in
+    let h2 : ℕ = h3 * 2 + c % 2 in
+    let h1 : ℕ = h2 * 2 + b % 2 in
+    let u : ℕ = h1 * 2 + a % 2 in
+    let e1 : u / 2 ≡ h1 = above h1 a in
+    let e2 : u / 4 ≡ h2 = fourth u ∙ ap half e1 ∙ above h2 b in
+    let e3 : u / 8 ≡ h3 = eighth u ∙ ap half e2 ∙ above h3 c in
+    let e4 : u / 16 ≡ h4 = sixteenth u ∙ ap half e3 ∙ above h4 d in
+    let e5 : u / 32 ≡ f % 2 = last u ∙ ap half e4 ∙ above (f % 2) e in
+    let u0 : a % 2 ≡ u % 2 = sym (lowest h1 a) in
+    let u1 : b % 2 ≡ u / 2 % 2 = sym (ap low e1 ∙ lowest h2 b) in
+    let u2 : c % 2 ≡ u / 4 % 2 = sym (ap low e2 ∙ lowest h3 c) in
+    let u3 : d % 2 ≡ u / 8 % 2 = sym (ap low e3 ∙ lowest h4 d) in
+    let u4 : e % 2 ≡ u / 16 % 2 = sym (ap low e4 ∙ lowest (f % 2) e) in
+    let u5 : f % 2 ≡ u / 32 % 2 = sym (ap low e5 ∙ mod-eq-of-lt (bit-lt f)) in
+    of-same (ap₂ bitXor u0 u3) u3 (ap₂ bitXor u1 u4) u4 (ap₂ bitXor u2 u5) u5 ∙ square-is u (of-lt a b c d e f)
+  where
+    fourth : (u : ℕ) → u / 4 ≡ u / 2 / 2
+    fourth u = omega arith
+
+    eighth : (u : ℕ) → u / 8 ≡ u / 4 / 2
+    eighth u = omega arith
+
+    sixteenth : (u : ℕ) → u / 16 ≡ u / 8 / 2
+    sixteenth u = omega arith
+
+    last : (u : ℕ) → u / 32 ≡ u / 16 / 2
+    last u = omega arith
+
+pub square-planes : (v r : Planes) → r .b0 ≡ bitXor (v .b0) (v .b3) → r .b1 ≡ v .b3 → r .b2 ≡ bitXor (v .b1) (v .b4) → r .b3 ≡ v .b4
+    → r .b4 ≡ bitXor (v .b2) (v .b5) → r .b5 ≡ v .b5 → Squared v r
+unfolding elementAt
+square-planes v r e0 e1 e2 e3 e4 e5 =
+    record {
+      at = λ l.
+          let at : ℕ → ℕ = λ w. bitAt w l in
+          of-same (ap at e0 ∙ xor-bit (v .b0) (v .b3) l) (ap at e1) (ap at e2 ∙ xor-bit (v .b1) (v .b4) l) (ap at e3) (ap at e4 ∙ xor-bit (v .b2) (v .b5) l) (ap at e5)
+          ∙ of-square (v .b0 / 2 ^ l) (v .b1 / 2 ^ l) (v .b2 / 2 ^ l) (v .b3 / 2 ^ l) (v .b4 / 2 ^ l) (v .b5 / 2 ^ l);
+    }
 
 -- ---- the places whose element is 0
 

@@ -1,4 +1,4 @@
--- The sum of two products, place by place.
+-- The sum of two products, and the square, place by place.
 use mathlib.Core.Path.{_≡_}
 use Prim.Native.Nat.{ℕ}
 use Rattle.field.specs.Field.{sum, product}
@@ -7,3 +7,6 @@ use Rattle.planes.specs.Slices.{elementAt}
 
 pub record Crossed (a x b y r : Planes) : Type 0 where
   pub at : (l : ℕ) → elementAt r l ≡ sum (product (elementAt a l) (elementAt x l)) (product (elementAt b l) (elementAt y l))
+
+pub record Squared (v r : Planes) : Type 0 where
+  pub at : (l : ℕ) → elementAt r l ≡ product (elementAt v l) (elementAt v l)

@@ -1,7 +1,7 @@
 // 64 elements at a time, a word of 64 bits for each of their six bits: their sums and products, and the roots of a polynomial among the 63 powers of α, all at once.
 ghost use Rattle.planes.specs.Roots.{RootsOf};
 ghost use Rattle.planes.specs.Slices.{Spread, Everywhere, Doubled, Added, OnlyAt, NextBit, PlaceMultiplied, ZerosOf};
-ghost use Rattle.planes.specs.Crossed.{Crossed};
+ghost use Rattle.planes.specs.Crossed.{Crossed, Squared};
 
 // Bit l of each is one bit of the l-th power of α, the lowest bit first.
 const PLACE_0: u64 = 9032456453195372609;
@@ -140,6 +140,33 @@ pub fn crossed(a: Planes, x: Planes, b: Planes, y: Planes) -> Planes
     let t1 = next_bit(t2, b, y.b1);
     let t0 = next_bit(t1, b, y.b0);
     plus(s0, t0)
+}
+
+// The same where y is b: a square only moves and adds bits.
+pub fn crossed_square(a: Planes, x: Planes, b: Planes) -> Planes
+    ensures { λ r. ⌜ Crossed a x b b r ⌝ }
+{
+    let s5 = only_at(a, x.b5);
+    let s4 = next_bit(s5, a, x.b4);
+    let s3 = next_bit(s4, a, x.b3);
+    let s2 = next_bit(s3, a, x.b2);
+    let s1 = next_bit(s2, a, x.b1);
+    let s0 = next_bit(s1, a, x.b0);
+    plus(s0, square(b))
+}
+
+// The square of each element: x^6, x^8 and x^10 are x + 1, x^3 + x^2 and x^5 + x^4.
+fn square(v: Planes) -> Planes
+    ensures { λ r. ⌜ Squared v r ⌝ }
+{
+    Planes {
+        b0: v.b0 ^ v.b3,
+        b1: v.b3,
+        b2: v.b1 ^ v.b4,
+        b3: v.b4,
+        b4: v.b2 ^ v.b5,
+        b5: v.b5,
+    }
 }
 
 // The places below 63 whose element is 0.

@@ -41,111 +41,56 @@ fn sum_planes(sums: [u8; 11], words: [u64; 66], k: usize) -> Planes
 
 // The places where the matrix whose windows are rows of eleven sums has a pivot of 0. One step of the elimination leaves a symmetric matrix of one row
 // less, with no division: the pivot times each entry, and the product of the two entries beside the pivot.
-fn six(
-    s0: Planes,
-    s1: Planes,
-    s2: Planes,
-    s3: Planes,
-    s4: Planes,
-    s5: Planes,
-    s6: Planes,
-    s7: Planes,
-    s8: Planes,
-    s9: Planes,
-    s10: Planes,
-) -> u64
+fn six(s0: Planes, s1: Planes, s2: Planes, s3: Planes, s4: Planes, s5: Planes, s6: Planes, s7: Planes, s8: Planes, s9: Planes, s10: Planes) -> u64
     ensures { λ r. ⌜ PivotsOfSums (IsSums s0 s1 s2 s3 s4 s5 s6 s7 s8 s9 s10) r ⌝ }
 {
-    let r00 = planes::crossed(s0, s2, s1, s1);
+    let r00 = planes::crossed_square(s0, s2, s1);
     let r01 = planes::crossed(s0, s3, s1, s2);
     let r02 = planes::crossed(s0, s4, s1, s3);
     let r03 = planes::crossed(s0, s5, s1, s4);
     let r04 = planes::crossed(s0, s6, s1, s5);
-    let r11 = planes::crossed(s0, s4, s2, s2);
+    let r11 = planes::crossed_square(s0, s4, s2);
     let r12 = planes::crossed(s0, s5, s2, s3);
     let r13 = planes::crossed(s0, s6, s2, s4);
     let r14 = planes::crossed(s0, s7, s2, s5);
-    let r22 = planes::crossed(s0, s6, s3, s3);
+    let r22 = planes::crossed_square(s0, s6, s3);
     let r23 = planes::crossed(s0, s7, s3, s4);
     let r24 = planes::crossed(s0, s8, s3, s5);
-    let r33 = planes::crossed(s0, s8, s4, s4);
+    let r33 = planes::crossed_square(s0, s8, s4);
     let r34 = planes::crossed(s0, s9, s4, s5);
-    let r44 = planes::crossed(s0, s10, s5, s5);
-    let rest = five(
-        r00,
-        r01,
-        r02,
-        r03,
-        r04,
-        r11,
-        r12,
-        r13,
-        r14,
-        r22,
-        r23,
-        r24,
-        r33,
-        r34,
-        r44,
-    );
+    let r44 = planes::crossed_square(s0, s10, s5);
+    let rest = five(r00, r01, r02, r03, r04, r11, r12, r13, r14, r22, r23, r24, r33, r34, r44);
     planes::zeros(s0) | rest
 }
 
 // The places where a symmetric matrix of five rows has a pivot of 0.
-fn five(
-    m00: Planes,
-    m01: Planes,
-    m02: Planes,
-    m03: Planes,
-    m04: Planes,
-    m11: Planes,
-    m12: Planes,
-    m13: Planes,
-    m14: Planes,
-    m22: Planes,
-    m23: Planes,
-    m24: Planes,
-    m33: Planes,
-    m34: Planes,
-    m44: Planes,
-) -> u64
+fn five(m00: Planes, m01: Planes, m02: Planes, m03: Planes, m04: Planes, m11: Planes, m12: Planes, m13: Planes, m14: Planes, m22: Planes, m23: Planes, m24: Planes, m33: Planes, m34: Planes, m44: Planes) -> u64
     ensures { λ r. ⌜ PivotsWhere 5 (Is5 m00 m01 m02 m03 m04 m11 m12 m13 m14 m22 m23 m24 m33 m34 m44) r ⌝ }
 {
-    let r00 = planes::crossed(m00, m11, m01, m01);
+    let r00 = planes::crossed_square(m00, m11, m01);
     let r01 = planes::crossed(m00, m12, m01, m02);
     let r02 = planes::crossed(m00, m13, m01, m03);
     let r03 = planes::crossed(m00, m14, m01, m04);
-    let r11 = planes::crossed(m00, m22, m02, m02);
+    let r11 = planes::crossed_square(m00, m22, m02);
     let r12 = planes::crossed(m00, m23, m02, m03);
     let r13 = planes::crossed(m00, m24, m02, m04);
-    let r22 = planes::crossed(m00, m33, m03, m03);
+    let r22 = planes::crossed_square(m00, m33, m03);
     let r23 = planes::crossed(m00, m34, m03, m04);
-    let r33 = planes::crossed(m00, m44, m04, m04);
+    let r33 = planes::crossed_square(m00, m44, m04);
     let rest = four(r00, r01, r02, r03, r11, r12, r13, r22, r23, r33);
     planes::zeros(m00) | rest
 }
 
 // The places where a symmetric matrix of four rows has a pivot of 0.
-fn four(
-    m00: Planes,
-    m01: Planes,
-    m02: Planes,
-    m03: Planes,
-    m11: Planes,
-    m12: Planes,
-    m13: Planes,
-    m22: Planes,
-    m23: Planes,
-    m33: Planes,
-) -> u64
+fn four(m00: Planes, m01: Planes, m02: Planes, m03: Planes, m11: Planes, m12: Planes, m13: Planes, m22: Planes, m23: Planes, m33: Planes) -> u64
     ensures { λ r. ⌜ PivotsWhere 4 (Is4 m00 m01 m02 m03 m11 m12 m13 m22 m23 m33) r ⌝ }
 {
-    let r00 = planes::crossed(m00, m11, m01, m01);
+    let r00 = planes::crossed_square(m00, m11, m01);
     let r01 = planes::crossed(m00, m12, m01, m02);
     let r02 = planes::crossed(m00, m13, m01, m03);
-    let r11 = planes::crossed(m00, m22, m02, m02);
+    let r11 = planes::crossed_square(m00, m22, m02);
     let r12 = planes::crossed(m00, m23, m02, m03);
-    let r22 = planes::crossed(m00, m33, m03, m03);
+    let r22 = planes::crossed_square(m00, m33, m03);
     let rest = three(r00, r01, r02, r11, r12, r22);
     planes::zeros(m00) | rest
 }
@@ -154,9 +99,9 @@ fn four(
 fn three(m00: Planes, m01: Planes, m02: Planes, m11: Planes, m12: Planes, m22: Planes) -> u64
     ensures { λ r. ⌜ PivotsWhere 3 (Is3 m00 m01 m02 m11 m12 m22) r ⌝ }
 {
-    let r00 = planes::crossed(m00, m11, m01, m01);
+    let r00 = planes::crossed_square(m00, m11, m01);
     let r01 = planes::crossed(m00, m12, m01, m02);
-    let r11 = planes::crossed(m00, m22, m02, m02);
+    let r11 = planes::crossed_square(m00, m22, m02);
     let rest = two(r00, r01, r11);
     planes::zeros(m00) | rest
 }
@@ -165,7 +110,7 @@ fn three(m00: Planes, m01: Planes, m02: Planes, m11: Planes, m12: Planes, m22: P
 fn two(m00: Planes, m01: Planes, m11: Planes) -> u64
     ensures { λ r. ⌜ PivotsWhere 2 (Is2 m00 m01 m11) r ⌝ }
 {
-    let r00 = planes::crossed(m00, m11, m01, m01);
+    let r00 = planes::crossed_square(m00, m11, m01);
     let rest = planes::zeros(r00);
     planes::zeros(m00) | rest
 }

@@ -9,8 +9,8 @@ use native.Mathlib.Numerals.{add-one}
 use native.Mathlib.Omega.{arith}
 use lib.Dec.{T, eqb, eqb→eq, ltb}
 use lib.ListN.{length, getD}
-use borrow.Author.Tests.{lt-ltb, le-ltb}
-use Rattle.numbers.proofs.Cases.{le-or-lt}
+use borrow.Author.Tests.{lt-ltb, le-ltb, ne-eqb}
+use Rattle.numbers.proofs.Cases.{le-or-lt, same-or-not}
 use Rattle.numbers.proofs.Range.{each, each-at}
 use Rattle.refusal.specs.Promise.{Tells}
 use Rattle.refusal.proofs.Laws.{tells-no}
@@ -22,15 +22,20 @@ use Rattle.regular.specs.Promises.{NoErrorsWhere}
 use Rattle.code.specs.Word.{powerSum, added, listed}
 use Rattle.code.specs.Inside.{PowerSums}
 use Rattle.code.specs.declared.Eleven.{Eleven}
-use Rattle.code.specs.Held.{eleven}
-use Rattle.code.proofs.Holding.{eleven-long, eleven-characters}
+use Rattle.code.specs.Held.{elevenAt, eleven}
+use Rattle.code.proofs.Holding.{eleven-long, eleven-get, eleven-characters}
 use Rattle.code.proofs.Words.{listed-long, listed-get, added-get}
 use Rattle.mender.specs.Mender.{Fits}
 use Rattle.mender.proofs.Finding.{true-false}
 use Rattle.ring.specs.declared.Undecided.{Undecided}
+use Rattle.ring.specs.declared.AllMarks.{AllMarks}
 use Rattle.ring.specs.Inside.{marksAt, MarkSums, TurnedBack, Mendable}
-use Rattle.ring.specs.Filter.{MarksIn, undecidedAt, MayList, NoErrorsAt, Decides}
+use Rattle.ring.specs.Filter.{MarksIn, marksOf, MarksAtAll, undecidedAt, MayList, NoErrorsAt, Decides}
 use Rattle.ring.proofs.Marks.{next-sums}
+
+-- the eleven sums at a start
+abbrev pub elevenOf : AllMarks → ℕ → Eleven
+elevenOf m k = record { first = getD (m .firsts) k 0; last = getD (m .lasts) k 0 }
 
 -- ---- the words
 
@@ -77,6 +82,42 @@ module _ (first : ℕ) (words : List ℕ) (t : T (turnedIn words)) (apart : (l :
   pub marks-in : MarksIn first words
   unfolding sumsIn
   marks-in = record { at = λ l k h g. sym (listed-get (λ k. elementIn words k l) 11 k g) ∙ sums-in l h .sum-at k g }
+
+-- ---- the marks at all starts
+
+unfoldable pub turnedAll : AllMarks → Bool
+turnedAll m =
+    each 125
+    (λ k. cond (eqb k 62) true (each 11 (λ i. eqb (elevenAt (elevenOf m (suc k)) i) (product (elevenAt (elevenOf m k) i) (getD backs i 0)))))
+
+module _ (m : AllMarks) (t : T (turnedAll m)) (begins : MarkSums 0 (marksOf m 0)) (returns : MarkSums 63 (marksOf m 63)) where
+  turned-at : (k : ℕ) → k < 125 → (k ≡ 62 → ⊥) → TurnedBack (marksOf m k) (marksOf m (suc k))
+  unfolding turnedAll
+  turned-at k h d =
+      record {
+        long = eleven-long (elevenOf m (suc k));
+        entry = λ i g.
+            eleven-get (elevenOf m (suc k)) i g
+            ∙ eqb→eq (elevenAt (elevenOf m (suc k)) i) (product (elevenAt (elevenOf m k) i) (getD backs i 0))
+            (each-at 11 (λ i. eqb (elevenAt (elevenOf m (suc k)) i) (product (elevenAt (elevenOf m k) i) (getD backs i 0)))
+            (subst (λ (b : Bool). T (cond b true (each 11 (λ i. eqb (elevenAt (elevenOf m (suc k)) i) (product (elevenAt (elevenOf m k) i) (getD backs i 0)))))) (ne-eqb k 62 d)
+            (each-at 125
+            (λ k. cond (eqb k 62) true (each 11 (λ i. eqb (elevenAt (elevenOf m (suc k)) i) (product (elevenAt (elevenOf m k) i) (getD backs i 0))))) t k h))
+            i g)
+            ∙ ap₂ product (sym (eleven-get (elevenOf m k) i g)) (back i g);
+      }
+
+  sums-at : (k : ℕ) → k < 126 → MarkSums k (marksOf m k)
+  sums-at zero h = begins
+  sums-at (suc k) h =
+      ⊎-elim (λ (e : k ≡ 62). subst (λ (n : ℕ). MarkSums n (marksOf m n)) (ap suc (sym e)) returns)
+      (λ (d : k ≡ 62 → ⊥).
+      subst (λ (n : ℕ). MarkSums n (marksOf m (suc k))) (add-one k)
+      (next-sums k (marksOf m k) (marksOf m (suc k)) d (sums-at k (omega arith)) (turned-at k (omega arith) d)))
+      (same-or-not k 62)
+
+  pub marks-at-all : MarksAtAll m
+  marks-at-all = record { at = sums-at }
 
 -- ---- the masks
 

@@ -30,7 +30,8 @@ use Rattle.ring.specs.Ring.{placed, Start, Those, end, listed, not-liste
 use Rattle.ring.specs.Promises.{Lists}
 use Rattle.ring.specs.Inside.{MarkSums, TurnedBack, Listable, Mendable, placeOf}
 use Rattle.ring.specs.declared.Undecided.{Undecided}
-use Rattle.ring.specs.Filter.{NoErrorsAt, Decides}
+use Rattle.ring.specs.declared.AllMarks.{AllMarks}
+use Rattle.ring.specs.Filter.{marksOf, MarksAtAll, NoErrorsAt, Decides}
 use Rattle.ring.proofs.Placing.{kept, placed-forward, placed-backward}
 use Rattle.ring.proofs.Marks.{first-marks}
 use Rattle.ring.proofs.Starts.{start-told}
@@ -39,43 +40,6 @@ use Rattle.ring.proofs.Starts.{start-told}
 
 pub mend-told : (s : List ℕ) (t : ℕ) (m : Mended) → Mends s 11 t m → Tells (Mendable s t) (m .found)
 mend-told s t m p = record { holds = λ e. (m .word, p .fits e); fails = λ e x. p .none e (x .0) (x .1) }
-
--- ---- the sums of a word turned back by one character
-
--- the powers of α by which they are multiplied, in lanes and beside them
-powers : 1115140155881063456 ≡ pack 10 (λ i. power α ((58 + i) * 62 % 63))
-unfolding pack power product shifted timesX sum
-powers = refl
-
-last-power : 63 ≡ power α (68 * 62 % 63)
-unfolding power product shifted timesX sum
-last-power = refl
-
-pub turned-sums : (h : Eleven) (p v : ℕ) → p ≡ pack 10 (λ k. product (lane (h .first) k) (lane 1115140155881063456 k)) → v ≡ product (h .last) 63
-    → TurnedBack (eleven h) (eleven (record { first = p; last = v }))
-turned-sums h p v ep ev =
-    record {
-      long = eleven-long (record { first = p; last = v });
-      entry = λ i b.
-          ⊎-elim (λ (g : 10 ≤ i). subst (λ (k : ℕ). getD (eleven (record { first = p; last = v })) k 0 ≡ product (getD (eleven h) k 0) (power α ((58 + k) * 62))) (ten i g b) last)
-          (λ (g : i < 10). first i g) (le-or-lt 10 i);
-    }
-  where
-    ten : (i : ℕ) → 10 ≤ i → i < 11 → 10 ≡ i
-    ten i g b = omega arith
-
-    first : (i : ℕ) → i < 10 → getD (eleven (record { first = p; last = v })) i 0 ≡ product (getD (eleven h) i 0) (power α ((58 + i) * 62))
-    first i g =
-        eleven-first (record { first = p; last = v }) i g ∙ ap (λ (q : ℕ). lane q i) ep
-        ∙ lane-pack 10 (λ k. product (lane (h .first) k) (lane 1115140155881063456 k)) (λ k. Laws.product-lt (lane (h .first) k) (lane 1115140155881063456 k)) i g
-        ∙ ap₂ product (sym (eleven-first h i g))
-        (ap (λ (q : ℕ). lane q i) powers ∙ lane-pack 10 (λ i. power α ((58 + i) * 62 % 63)) (λ i. Laws.power-lt α ((58 + i) * 62 % 63)) i g ∙ Laws.power-mod ((58 + i) * 62))
-
-    last : getD (eleven (record { first = p; last = v })) 10 0 ≡ product (getD (eleven h) 10 0) (power α (68 * 62))
-    last =
-        eleven-last (record { first = p; last = v }) ∙ ap (λ (n : ℕ). n % 64) ev ∙ mod-eq-of-lt (Laws.product-lt (h .last) 63)
-        ∙ ap (product (h .last)) (last-power ∙ Laws.power-mod (68 * 62)) ∙ sym (Laws.product-low (h .last) (power α (68 * 62)))
-        ∙ ap (λ (n : ℕ). product n (power α (68 * 62))) (sym (eleven-last h))
 
 -- ---- the word at a start
 
@@ -130,10 +94,9 @@ placed-all ring k word a t h = same-word word (placed k ring) (t .long) (kept k 
 moved : {P : ℕ → Type 0} {n m k j : ℕ} {l : List ℕ} → n ≡ m → k ≡ j → Those P n k l → Those P m j l
 moved {P} {l = l} p q t = subst₂ (λ (n k : ℕ). Those P n k l) p q t
 
-pub record ListedTo (ring : List ℕ) (t : ℕ) (old out sums here : List ℕ) (n k : ℕ) : Type 0 where
+pub record ListedTo (ring : List ℕ) (t : ℕ) (old out sums : List ℕ) (n k : ℕ) : Type 0 where
   pub asked : Listable ring t (length old)
   pub ring-sums : PowerSums ring sums
-  pub mark-sums : MarkSums k here
   pub most : k ≤ 126
   pub few : n ≤ k
   pub long : length out ≡ 126
@@ -145,13 +108,11 @@ pub record ListedTo (ring : List ℕ) (t : ℕ) (old out sums here : List ℕ) (
 word-of : {ring : List ℕ} {t room : ℕ} → Listable ring t room → Word ring
 word-of asked = record { long = asked .long; characters = asked .characters }
 
-pub listed-none : (ring : List ℕ) (t : ℕ) (old sums here : List ℕ) → Listable ring t (length old) → PowerSums ring sums → PowerSums marks here
-    → ListedTo ring t old old sums here 0 0
-listed-none ring t old sums here asked us ms =
+pub listed-none : (ring : List ℕ) (t : ℕ) (old sums : List ℕ) → Listable ring t (length old) → PowerSums ring sums → ListedTo ring t old old sums 0 0
+listed-none ring t old sums asked us =
     record {
       asked = asked;
       ring-sums = us;
-      mark-sums = first-marks here ms;
       most = omega arith;
       few = omega arith;
       long = asked .wide;
@@ -161,12 +122,12 @@ listed-none ring t old sums here asked us ms =
       whole = λ more t. t;
     }
 
-module _ (ring : List ℕ) (t : ℕ) (old out sums here : List ℕ) (n k : ℕ) (b : Bool) (d after : List ℕ) (n′ : ℕ) (out′ : List ℕ) (s : ListedTo ring t old out sums here n k) (h : k < 126)
-    (ed : d ≡ added sums here) (tells : Tells (Mendable d t) b) (next : MarkSums (k + 1) after) where
+module _ (ring : List ℕ) (t : ℕ) (old out sums : List ℕ) (n k : ℕ) (firsts lasts : List ℕ) (b : Bool) (d : List ℕ) (n′ : ℕ) (out′ : List ℕ) (s : ListedTo ring t old out sums n k) (h : k < 126)
+    (ms : MarksAtAll (record { firsts = firsts; lasts = lasts })) (ed : d ≡ added sums (eleven (record { first = getD firsts k 0; last = getD lasts k 0 }))) (tells : Tells (Mendable d t) b) where
   told : Tells (Start t ring k) b
-  told = start-told ring sums here k t (word-of (s .asked)) (s .asked .small) h (s .ring-sums) (s .mark-sums) b (subst (λ (x : List ℕ). Tells (Mendable x t) b) ed tells)
+  told = start-told ring sums (marksOf (record { firsts = firsts; lasts = lasts }) k) k t (word-of (s .asked)) (s .asked .small) h (s .ring-sums) (ms .at k h) b (subst (λ (x : List ℕ). Tells (Mendable x t) b) ed tells)
 
-  pub listed-one : b ≡ true → n′ ≡ n + 1 → out′ ≡ set out n k → ListedTo ring t old out′ sums after n′ (k + 1)
+  pub listed-one : b ≡ true → n′ ≡ n + 1 → out′ ≡ set out n k → ListedTo ring t old out′ sums n′ (k + 1)
   listed-one e en eo =
       let c : n ≡ length (s .starts) = s .count in
       let x : set out n k ≡ (s .starts ++ (k ∷ [])) ++ drop (n + 1) old =
@@ -177,7 +138,6 @@ module _ (ring : List ℕ) (t : ℕ) (old out sums here : List ℕ) (n k : ℕ) 
       record {
         asked = s .asked;
         ring-sums = s .ring-sums;
-        mark-sums = next;
         most = omega arith;
         few = omega (arith, s .few);
         long = ap length eo ∙ length-set out n k ∙ s .long;
@@ -187,12 +147,11 @@ module _ (ring : List ℕ) (t : ℕ) (old out sums here : List ℕ) (n k : ℕ) 
         whole = λ more r. rw append-assoc (s .whole (k ∷ more) (moved {n = suc (126 - (k + 1))} (omega arith) refl (listed (told .holds e) (moved refl (add-one k) r))));
       }
 
-  pub listed-not : b ≡ false → n′ ≡ n → out′ ≡ out → ListedTo ring t old out′ sums after n′ (k + 1)
+  pub listed-not : b ≡ false → n′ ≡ n → out′ ≡ out → ListedTo ring t old out′ sums n′ (k + 1)
   listed-not e en eo =
       record {
         asked = s .asked;
         ring-sums = s .ring-sums;
-        mark-sums = next;
         most = omega arith;
         few = omega (arith, s .few);
         long = ap length eo ∙ s .long;
@@ -203,13 +162,12 @@ module _ (ring : List ℕ) (t : ℕ) (old out sums here : List ℕ) (n k : ℕ) 
       }
 
 -- where the filter has a 0 at this start, no errors have its sums
-pub no-errors-here : (ring : List ℕ) (t : ℕ) (old out sums here : List ℕ) (n k : ℕ) (u : Undecided) (d : List ℕ) → Decides sums u
-    → ListedTo ring t old out sums here n k → k < 126 → d ≡ added sums here → NoErrorsAt u k d
-no-errors-here ring t old out sums here n k u d f s h e =
-    subst (NoErrorsAt u k) (sym e) (f .decided k here h (s .mark-sums))
+pub no-errors-here : (sums : List ℕ) (k : ℕ) (firsts lasts : List ℕ) (u : Undecided) (d : List ℕ) → Decides sums u → MarksAtAll (record { firsts = firsts; lasts = lasts })
+    → k < 126 → d ≡ added sums (eleven (record { first = getD firsts k 0; last = getD lasts k 0 })) → NoErrorsAt u k d
+no-errors-here sums k firsts lasts u d f ms h e = subst (NoErrorsAt u k) (sym e) (f .decided k _ h (ms .at k h))
 
-pub listed-all : (ring : List ℕ) (t : ℕ) (old out sums here : List ℕ) (n k : ℕ) → ListedTo ring t old out sums here n k → 126 ≤ k → Lists ring t old (n ∷ []) out
-listed-all ring t old out sums here n k s h =
+pub listed-all : (ring : List ℕ) (t : ℕ) (old out sums : List ℕ) (n k : ℕ) → ListedTo ring t old out sums n k → 126 ≤ k → Lists ring t old (n ∷ []) out
+listed-all ring t old out sums n k s h =
     record {
       starts = s .starts;
       these = rw append-nil at (s .whole [] (moved {n = 0} (omega (arith, s .most)) refl end));

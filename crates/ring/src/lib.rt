@@ -5,19 +5,13 @@ ghost use Prim.Native.Nat.{_+_, _<_};
 ghost use lib.ListN.{length};
 ghost use Rattle.refusal.specs.Promise.{Tells};
 ghost use Rattle.code.specs.Word.{added, marks, reversed};
-ghost use Rattle.code.specs.Inside.{PowerSums};
 ghost use Rattle.code.specs.Held.{eleven};
 ghost use Rattle.ring.specs.Ring.{placed};
 ghost use Rattle.ring.specs.Promises.{listingNumbers, readingNumbers, Lists, ListsRing, ReadsRing};
-ghost use Rattle.ring.specs.Inside.{MarkSums, TurnedBack, Listable, Mendable, placeOf};
-ghost use Rattle.ring.specs.Filter.{MarksIn, MayList, NoErrorsAt, Decides};
+ghost use Rattle.ring.specs.Inside.{Listable, Mendable, placeOf};
+ghost use Rattle.ring.specs.Filter.{MarksIn, MarksAtAll, MayList, NoErrorsAt, Decides};
 use code::Eleven;
 use refusal::Refusal;
-
-// The powers 5, 4, .., -4 of α, in lanes, and the power -5: what turns the eleven power sums back by one character.
-const POWERS_BACK: u64 = 1115140155881063456;
-
-const LAST_POWER_BACK: u8 = 63;
 
 pub enum RingListing {
     Listed { count: u8 },
@@ -37,6 +31,12 @@ pub enum RingReading {
 struct Undecided {
     forward: u64,
     backward: u64,
+}
+
+// The power sums of the marks at each start: of each start ten packed, and the last.
+struct AllMarks {
+    firsts: [u64; 126],
+    lasts: [u8; 126],
 }
 
 // Lists a ring: writes the starts at which a line lies within the radius, in rising order.
@@ -105,13 +105,17 @@ fn list_starts(ring: &[u8], radius: u8, output: &mut [u8]) -> u8
 {
     let sums = code::eleven_sums(ring);
     let undecided = undecided_starts(sums);
-    let mut marks = forward_marks();
+    let marks = all_marks();
+    let firsts = marks.firsts;
+    let lasts = marks.lasts;
     let mut count: u8 = 0;
     let mut start: u8 = 0;
     while start < 126 {
-        let listed = listable(undecided, start, code::eleven_added(sums, marks), radius);
-        let after = next_marks(marks, start);
-        marks = after;
+        let here = Eleven {
+            first: firsts[start as usize],
+            last: lasts[start as usize],
+        };
+        let listed = listable(undecided, start, code::eleven_added(sums, here), radius);
         if listed {
             let at = count as usize;
             output[at] = start;
@@ -215,44 +219,42 @@ fn mendable(sums: Eleven, radius: u8) -> bool
     errors.found
 }
 
-// The power sums of the marks at the start after this one: they are turned back by one character, but the first backward start has its own.
-fn next_marks(marks: Eleven, start: u8) -> Eleven
-    requires { ⌜ MarkSums start (eleven marks) ⌝ }
-    ensures { λ r. ⌜ MarkSums (start + 1) (eleven r) ⌝ }
+// The power sums of the marks at each start.
+fn all_marks() -> AllMarks
+    ensures { λ r. ⌜ MarksAtAll r ⌝ }
 {
-    if start == 62 {
-        return backward_marks();
-    }
-    turned_back(marks)
-}
-
-// The power sums of the marks.
-fn forward_marks() -> Eleven
-    ensures { λ r. ⌜ PowerSums marks (eleven r) ⌝ }
-{
-    code::packed(code::mark_sums())
-}
-
-// The power sums of the marks read backward from place 0.
-fn backward_marks() -> Eleven
-    ensures { λ r. ⌜ PowerSums (reversed 0 marks) (eleven r) ⌝ }
-{
-    code::packed(backward_sums())
-}
-
-fn backward_sums() -> [u8; 11]
-    ensures { λ r. ⌜ PowerSums (reversed 0 marks) r ⌝ }
-{
-    [57, 16, 45, 19, 39, 41, 16, 29, 1, 33, 29]
-}
-
-// The power sums of a word turned back by one character: each S_j times α^-j, from j = -5 on.
-fn turned_back(sums: Eleven) -> Eleven
-    ensures { λ r. ⌜ TurnedBack (eleven sums) (eleven r) ⌝ }
-{
-    Eleven {
-        first: lanes::products(sums.first, POWERS_BACK),
-        last: field::times(sums.last, LAST_POWER_BACK),
+    AllMarks {
+        firsts: [
+            1106501885749375403, 831972798923376863, 777209011059055153, 718341364872284040, 992834649307281996, 984338860181533578,
+            215055035228821839, 677446197877990121, 258102427533131164, 748716198480653778, 544012765402065371, 729770376154016503,
+            631820244965370765, 117490077502906218, 161459273132462207, 603314375961785345, 1146974840885965600, 429097376717726064,
+            947964747481847016, 913580339118481212, 1053048647003178082, 494068961458272051, 651780160799736395, 921517576481166767,
+            141929060255042521, 956887147236096884, 281938877362713454, 377437028659828089, 875521774940121028, 59841170720636486,
+            82087933270106245, 886128626313291814, 1126054570155009589, 757836578951766670, 477691873764415881, 467674016855154412,
+            531180159695239354, 804465149120183847, 339041464606516373, 1020034779890293566, 625435244098754401, 1071149770015802960,
+            692248716800702104, 183332888161389204, 435107719772921758, 592280639074634833, 38221336309199160, 1038562513163890916,
+            575593900524248118, 389209362693416237, 239939801291895770, 820600619821509975, 850214934735577597, 405366755033836738,
+            163481412395837699, 513817908877563619, 323447022261952147, 1089667400620227771, 354332234639834375, 104974404935738853,
+            227217214428389334, 300983037346453597, 26268614312886834, 594885313332958265, 1151189268282897156, 431976447674106182,
+            943271207817880773, 912902627778756390, 1048659328088659061, 493675336768296718, 664909429074575945, 934087742993073580,
+            132477932840995834, 960093461004565351, 284705318241125205, 364398951786243454, 869653750462793697, 70697130694975056,
+            76435138015686808, 894073078130640916, 1118330088233932318, 763502705130123921, 469254908065724856, 452623283003449060,
+            522847647837378742, 808930058816618029, 341990835166332058, 1015420404233841431, 624698158548645757, 1066603083435595330,
+            691815990624392835, 196530463314037411, 447767014921867155, 582854181902666875, 41351989831020807, 1041383447305208037,
+            562508269293825046, 383185481567814941, 250953196936532978, 814912227655581035, 858163579096629727, 397851180612492529,
+            168917741218347272, 505323356372448972, 308730196573150858, 1081411648951082127, 358384828554050857, 107609865986721244,
+            222738354618150866, 300359889717688411, 21888847262503479, 1105970065819963789, 845002149353769194, 789891809372932671,
+            708772933433608065, 995865658836793952, 987349666770535344, 202368045799598440, 671590886865879804, 269013362893036962,
+            743000524541951475, 551881764617816523, 722098534055189231, 637431328194739097, 109041017752502132, 146611124338544750,
+        ],
+        lasts: [
+            52, 25, 47, 11, 51, 34, 60, 40, 48, 32, 1, 63, 42, 13, 55, 27, 18, 28, 41, 15, 10,
+            12, 8, 49, 31, 43, 50, 29, 22, 37, 7, 59, 19, 35, 3, 2, 61, 23, 26, 45, 54, 36,
+            56, 17, 30, 20, 24, 16, 33, 62, 21, 39, 58, 44, 9, 14, 53, 38, 5, 6, 4, 57, 46,
+            29, 22, 37, 7, 59, 19, 35, 3, 2, 61, 23, 26, 45, 54, 36, 56, 17, 30, 20, 24, 16,
+            33, 62, 21, 39, 58, 44, 9, 14, 53, 38, 5, 6, 4, 57, 46, 52, 25, 47, 11, 51, 34,
+            60, 40, 48, 32, 1, 63, 42, 13, 55, 27, 18, 28, 41, 15, 10, 12, 8, 49, 31, 43, 50,
+        ],
     }
 }
 

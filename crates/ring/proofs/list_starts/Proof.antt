@@ -1,20 +1,20 @@
--- `ring::list_starts` meets its contract: the loop keeps that the starts below this one are listed, so that whatever lists the rest completes the list, and that the marks' sums are those of this start.
+-- `ring::list_starts` meets its contract: the loop keeps that the starts below this one are listed, so that whatever lists the rest completes the list.
 use native.Mathlib.Omega.{arith}
 use borrow.Author.Needs.{needs}
 use mathlib.Core.Logic.{⊎-elim}
 use Prim.Native.Nat.{_-_, _<_}
 use Rattle.code.specs.Held.{eleven}
-use Rattle.ring.specs.Filter.{Decides}
+use Rattle.ring.specs.Filter.{MarksAtAll, Decides}
 use Rattle.ring.proofs.Turns.{ListedTo, no-errors-here, listed-none, listed-one, listed-not, listed-all}
 use Rattle.ring.proofs.list_starts.Statement.{statement}
 use Rattle.ring.proofs.list_starts.Tie as tie
 
 abbrev Inv-loop : tie.InvT-loop
-Inv-loop ring radius output₀ sums undecided marks₀ count₀ start₀ output marks count start =
-    Decides (eleven sums) undecided × ListedTo ring radius output₀ output (eleven sums) (eleven marks) count start
+Inv-loop ring radius output₀ sums undecided firsts lasts count₀ start₀ output count start =
+    Decides (eleven sums) undecided × MarksAtAll (record { firsts = firsts; lasts = lasts }) × ListedTo ring radius output₀ output (eleven sums) count start
 
 abbrev μ-loop : tie.MeasureT-loop
-μ-loop ring radius output₀ sums undecided marks₀ count₀ start₀ output marks count start = 126 - start
+μ-loop ring radius output₀ sums undecided firsts lasts count₀ start₀ output count start = 126 - start
 
 loop-holds : tie.Need-loop-holds Inv-loop μ-loop
 loop-holds c = search (listed-none, needs)
@@ -23,9 +23,7 @@ listable-requires : tie.Need-listable-requires Inv-loop μ-loop
 listable-requires c κs = search (no-errors-here, needs)
 
 loop-again : tie.Need-loop-again Inv-loop μ-loop
-loop-again c =
-    let inside : c .before .before .before .before .before .loop .start < 126 = omega arith in
-    ⊎-elim (λ w. search (listed-one, needs)) (λ w. search (listed-not, needs)) (c .if1 .came)
+loop-again c = ⊎-elim (λ w. search (listed-one, needs)) (λ w. search (listed-not, needs)) (c .if1 .came)
 
 returns : tie.Need-returns Inv-loop μ-loop
 returns c = search (listed-all, needs)
@@ -40,9 +38,13 @@ list-starts-spec =
     (λ c κs. search needs)
     (λ c κs. search needs)
     loop-holds
+    (λ c. search needs)
+    (λ c. search needs)
+    (λ c. search needs)
+    (λ c. search needs)
+    (λ c. search needs)
     (λ c κs. search needs)
     listable-requires
-    (λ c κs. search needs)
     (λ c. search needs)
     (λ c. search needs)
     (λ c. search needs)

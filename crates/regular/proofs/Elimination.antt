@@ -1,5 +1,5 @@
 -- A symmetric matrix with pivots that are not 0 combines only zeros to 0; so sums whose six windows are such a matrix are those of no errors.
-use mathlib.Core.Path.{_≡_, refl, sym, ap, ap₂, _∙_}
+use mathlib.Core.Path.{_≡_, sym, ap, ap₂, _∙_}
 use mathlib.Core.List.{List}
 use Prim.Native.Nat.{ℕ, zero, suc, _+_, _<_}
 use native.Mathlib.Omega.{arith}
@@ -9,7 +9,7 @@ use Rattle.field.specs.Field.{sum, product, total}
 use Rattle.field.proofs.Laws
 use Rattle.field.proofs.Totals.{total-same, total-none, total-sum, total-scaled, total-front}
 use Rattle.mender.specs.Mender.{Fits}
-use Rattle.mender.specs.Inside.{mixed, Degree}
+use Rattle.mender.specs.Inside.{mixed}
 use Rattle.mender.proofs.Fitting.{some-kernel}
 use Rattle.regular.specs.Pivots.{reduced, Pivots}
 

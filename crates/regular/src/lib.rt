@@ -41,7 +41,19 @@ fn sum_planes(sums: [u8; 11], words: [u64; 66], k: usize) -> Planes
 
 // The places where the matrix whose windows are rows of eleven sums has a pivot of 0. One step of the elimination leaves a symmetric matrix of one row
 // less, with no division: the pivot times each entry, and the product of the two entries beside the pivot.
-fn six(s0: Planes, s1: Planes, s2: Planes, s3: Planes, s4: Planes, s5: Planes, s6: Planes, s7: Planes, s8: Planes, s9: Planes, s10: Planes) -> u64
+fn six(
+    s0: Planes,
+    s1: Planes,
+    s2: Planes,
+    s3: Planes,
+    s4: Planes,
+    s5: Planes,
+    s6: Planes,
+    s7: Planes,
+    s8: Planes,
+    s9: Planes,
+    s10: Planes,
+) -> u64
     ensures { λ r. ⌜ PivotsOfSums (IsSums s0 s1 s2 s3 s4 s5 s6 s7 s8 s9 s10) r ⌝ }
 {
     let r00 = planes::crossed_square(s0, s2, s1);
@@ -59,12 +71,44 @@ fn six(s0: Planes, s1: Planes, s2: Planes, s3: Planes, s4: Planes, s5: Planes, s
     let r33 = planes::crossed_square(s0, s8, s4);
     let r34 = planes::crossed(s0, s9, s4, s5);
     let r44 = planes::crossed_square(s0, s10, s5);
-    let rest = five(r00, r01, r02, r03, r04, r11, r12, r13, r14, r22, r23, r24, r33, r34, r44);
+    let rest = five(
+        r00,
+        r01,
+        r02,
+        r03,
+        r04,
+        r11,
+        r12,
+        r13,
+        r14,
+        r22,
+        r23,
+        r24,
+        r33,
+        r34,
+        r44,
+    );
     planes::zeros(s0) | rest
 }
 
 // The places where a symmetric matrix of five rows has a pivot of 0.
-fn five(m00: Planes, m01: Planes, m02: Planes, m03: Planes, m04: Planes, m11: Planes, m12: Planes, m13: Planes, m14: Planes, m22: Planes, m23: Planes, m24: Planes, m33: Planes, m34: Planes, m44: Planes) -> u64
+fn five(
+    m00: Planes,
+    m01: Planes,
+    m02: Planes,
+    m03: Planes,
+    m04: Planes,
+    m11: Planes,
+    m12: Planes,
+    m13: Planes,
+    m14: Planes,
+    m22: Planes,
+    m23: Planes,
+    m24: Planes,
+    m33: Planes,
+    m34: Planes,
+    m44: Planes,
+) -> u64
     ensures { λ r. ⌜ PivotsWhere 5 (Is5 m00 m01 m02 m03 m04 m11 m12 m13 m14 m22 m23 m24 m33 m34 m44) r ⌝ }
 {
     let r00 = planes::crossed_square(m00, m11, m01);
@@ -82,7 +126,18 @@ fn five(m00: Planes, m01: Planes, m02: Planes, m03: Planes, m04: Planes, m11: Pl
 }
 
 // The places where a symmetric matrix of four rows has a pivot of 0.
-fn four(m00: Planes, m01: Planes, m02: Planes, m03: Planes, m11: Planes, m12: Planes, m13: Planes, m22: Planes, m23: Planes, m33: Planes) -> u64
+fn four(
+    m00: Planes,
+    m01: Planes,
+    m02: Planes,
+    m03: Planes,
+    m11: Planes,
+    m12: Planes,
+    m13: Planes,
+    m22: Planes,
+    m23: Planes,
+    m33: Planes,
+) -> u64
     ensures { λ r. ⌜ PivotsWhere 4 (Is4 m00 m01 m02 m03 m11 m12 m13 m22 m23 m33) r ⌝ }
 {
     let r00 = planes::crossed_square(m00, m11, m01);

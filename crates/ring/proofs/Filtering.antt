@@ -1,13 +1,13 @@
 -- The filter in front of listing: the words hold the marks' power sums at each start, and where the filter has a 0 the start is not listed.
-use mathlib.Core.Path.{_≡_, refl, sym, ap, ap₂, _∙_, subst}
+use mathlib.Core.Path.{_≡_, sym, ap, ap₂, _∙_, subst}
 use mathlib.Core.Bool.{Bool, true, false, cond}
 use mathlib.Core.Logic.{⊎-elim}
 use mathlib.Core.List.{List, [], _∷_}
-use Prim.Native.Nat.{ℕ, zero, suc, min, _+_, _-_, _*_, _/_, _%_, _^_, _<_, _≤_}
+use Prim.Native.Nat.{ℕ, zero, suc, _+_, _-_, _*_, _/_, _%_, _^_, _<_, _≤_}
 use native.Mathlib.Nat.{mod-eq-of-lt, le-trans}
 use native.Mathlib.Numerals.{add-one}
 use native.Mathlib.Omega.{arith}
-use lib.Dec.{T, eqb, eqb→eq, ltb}
+use lib.Dec.{T, eqb, eqb→eq}
 use lib.ListN.{length, getD}
 use borrow.Author.Tests.{lt-ltb, le-ltb, ne-eqb}
 use Rattle.numbers.proofs.Cases.{le-or-lt, same-or-not}
@@ -19,8 +19,7 @@ use Rattle.field.proofs.Laws
 use Rattle.planes.specs.Slices.{bitAt}
 use Rattle.regular.specs.Pivots.{elementIn, sumIn}
 use Rattle.regular.specs.Promises.{NoErrorsWhere}
-use Rattle.code.specs.Word.{powerSum, added, listed}
-use Rattle.code.specs.Inside.{PowerSums}
+use Rattle.code.specs.Word.{added, listed}
 use Rattle.code.specs.declared.Eleven.{Eleven}
 use Rattle.code.specs.Held.{elevenAt, eleven}
 use Rattle.code.proofs.Holding.{eleven-long, eleven-get, eleven-characters}
@@ -29,7 +28,7 @@ use Rattle.mender.specs.Mender.{Fits}
 use Rattle.mender.proofs.Finding.{true-false}
 use Rattle.ring.specs.declared.Undecided.{Undecided}
 use Rattle.ring.specs.declared.AllMarks.{AllMarks}
-use Rattle.ring.specs.Inside.{marksAt, MarkSums, TurnedBack, Mendable}
+use Rattle.ring.specs.Inside.{MarkSums, TurnedBack, Mendable}
 use Rattle.ring.specs.Filter.{MarksIn, marksOf, MarksAtAll, undecidedAt, MayList, NoErrorsAt, Decides}
 use Rattle.ring.proofs.Marks.{next-sums}
 

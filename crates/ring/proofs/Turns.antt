@@ -1,10 +1,9 @@
 -- What the code of rings does, a turn and a way out at a time, over plain variables.
-use mathlib.Core.Path.{_≡_, refl, sym, ap, ap₂, _∙_, subst, subst₂}
+use mathlib.Core.Path.{_≡_, refl, sym, ap, _∙_, subst, subst₂}
 use mathlib.Core.Bool.{Bool, true, false, cond}
 use mathlib.Core.Logic.{⊎-elim}
 use mathlib.Core.List.{List, [], _∷_, _++_, append-nil, append-assoc}
-use Prim.Native.Nat.{ℕ, suc, _+_, _-_, _*_, _%_, _<_, _≤_}
-use native.Mathlib.Nat.{mod-eq-of-lt}
+use Prim.Native.Nat.{ℕ, suc, _+_, _-_, _%_, _<_, _≤_}
 use native.Mathlib.Numerals.{add-one}
 use native.Mathlib.Omega.{arith}
 use lib.ListN.{length, getD, set, drop, length-append, length-set}
@@ -13,27 +12,20 @@ use borrow.Author.Count.{below-none, below-more}
 use borrow.Author.Tests.{lt-ltb, le-ltb}
 use Rattle.numbers.proofs.Cases.{le-or-lt}
 use Rattle.refusal.specs.Promise.{Tells}
-use Rattle.field.specs.Field.{sum, timesX, shifted, product, α, power}
 use Rattle.field.proofs.Laws
-use Rattle.lanes.specs.Lanes.{pack, lane}
-use Rattle.lanes.proofs.Laws.{lane-pack}
-use Rattle.code.specs.Word.{added, marks}
+use Rattle.code.specs.Word.{added}
 use Rattle.code.specs.Inside.{PowerSums}
-use Rattle.code.specs.declared.Eleven.{Eleven}
 use Rattle.code.specs.Held.{eleven}
-use Rattle.code.proofs.Holding.{eleven-long, eleven-first, eleven-last}
 use Rattle.code.proofs.Words.{same-word}
 use Rattle.code.proofs.Turning.{turned-get, reversed-get}
 use Rattle.mender.specs.declared.Mended.{Mended}
 use Rattle.mender.specs.Mender.{Mends, Word}
 use Rattle.ring.specs.Ring.{placed, Start, Those, end, listed, not-listed, ListOf}
 use Rattle.ring.specs.Promises.{Lists}
-use Rattle.ring.specs.Inside.{MarkSums, TurnedBack, Listable, Mendable, placeOf}
+use Rattle.ring.specs.Inside.{Listable, Mendable, placeOf}
 use Rattle.ring.specs.declared.Undecided.{Undecided}
-use Rattle.ring.specs.declared.AllMarks.{AllMarks}
 use Rattle.ring.specs.Filter.{marksOf, MarksAtAll, NoErrorsAt, Decides}
 use Rattle.ring.proofs.Placing.{kept, placed-forward, placed-backward}
-use Rattle.ring.proofs.Marks.{first-marks}
 use Rattle.ring.proofs.Starts.{start-told}
 
 -- ---- whether errors have given sums

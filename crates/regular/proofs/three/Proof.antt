@@ -16,13 +16,14 @@ returns c =
     let k2 = k1 .before in
     let k3 = k2 .before in
     record {
-      pivots = λ l b z m h. ((λ e. c .zeros .ensures .other l b (left-none (or-between (c .zeros .result) (k0 .two .result) l) z) (sym (h .0) ∙ e)),
-      k0 .two .ensures .pivots l b (right-none (or-between (c .zeros .result) (k0 .two .result) l) z) (reduced m)
-      (
-        ap₂ sum (ap₂ product (h .0) (h .3)) (ap₂ product (h .1) (h .1)) ∙ sym (k3 .crossed-square .ensures .at l),
-        ap₂ sum (ap₂ product (h .0) (h .4)) (ap₂ product (h .1) (h .2)) ∙ sym (k2 .crossed .ensures .at l),
-        ap₂ sum (ap₂ product (h .0) (h .5)) (ap₂ product (h .2) (h .2)) ∙ sym (k1 .crossed-square2 .ensures .at l),
-      ));
+      pivots = λ l b z m h. (
+        (λ e. c .zeros .ensures .other l b (left-none (or-between (c .zeros .result) (k0 .two .result) l) z) (sym (h .0) ∙ e)),
+        k0 .two .ensures .pivots l b (right-none (or-between (c .zeros .result) (k0 .two .result) l) z) (reduced m) (
+          ap₂ sum (ap₂ product (h .0) (h .3)) (ap₂ product (h .1) (h .1)) ∙ sym (k3 .crossed-square .ensures .at l),
+          ap₂ sum (ap₂ product (h .0) (h .4)) (ap₂ product (h .1) (h .2)) ∙ sym (k2 .crossed .ensures .at l),
+          ap₂ sum (ap₂ product (h .0) (h .5)) (ap₂ product (h .2) (h .2)) ∙ sym (k1 .crossed-square2 .ensures .at l),
+        ),
+      );
     }
 
 pub three-spec : {M : Type 1} → statement M

@@ -1,5 +1,4 @@
 -- `ring::forward_words` meets its contract: the sums at the first start are computed by Horner's rule, and those at each next one are compared with them turned back.
-use mathlib.Core.Path.{refl}
 use native.Mathlib.Omega.{arith}
 use Rattle.field.specs.Field.{sum, timesX, shifted, product, power}
 use Rattle.regular.specs.Pivots.{elementIn}

@@ -1,8 +1,7 @@
 -- `ring::list_starts` meets its contract: the loop keeps that the starts below this one are listed, so that whatever lists the rest completes the list.
-use native.Mathlib.Omega.{arith}
 use borrow.Author.Needs.{needs}
 use mathlib.Core.Logic.{⊎-elim}
-use Prim.Native.Nat.{_-_, _<_}
+use Prim.Native.Nat.{_-_}
 use Rattle.code.specs.Held.{eleven}
 use Rattle.ring.specs.Filter.{MarksAtAll, Decides}
 use Rattle.ring.proofs.Turns.{ListedTo, no-errors-here, listed-none, listed-one, listed-not, listed-all}

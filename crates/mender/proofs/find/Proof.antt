@@ -1,7 +1,7 @@
 -- `mender::find` meets its contract: each return is one way in which the search ends.
 use borrow.Author.Needs.{needs}
 use borrow.Author.Tests.{not-true, not-false}
-use Rattle.mender.proofs.Locating.{coefficients-small, no-row, not-sixth, too-heavy, other-sums, this-word}
+use Rattle.mender.proofs.Locating.{locator-kills, no-row, not-sixth, too-heavy, other-sums, this-word}
 use Rattle.mender.proofs.find.Statement.{statement}
 use Rattle.mender.proofs.find.Tie as tie
 
@@ -41,8 +41,14 @@ unpacked-requires c κs = search needs
 coefficients-requires : tie.Need-coefficients-requires
 coefficients-requires c κs = search needs
 
+sub-least : tie.Need-sub-least
+sub-least c = search needs
+
+least-requires : tie.Need-least-requires
+least-requires c κs = search needs
+
 values-at-roots-requires : tie.Need-values-at-roots-requires
-values-at-roots-requires c κs = search (coefficients-small, needs)
+values-at-roots-requires c κs = search (locator-kills, needs)
 
 cast-if4 : tie.Need-cast-if4
 cast-if4 c = search needs
@@ -87,6 +93,8 @@ find-spec =
     returns-2
     unpacked-requires
     coefficients-requires
+    sub-least
+    least-requires
     values-at-roots-requires
     cast-if4
     nothing-requires-3

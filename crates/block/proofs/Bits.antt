@@ -10,7 +10,7 @@ use Rattle.numbers.proofs.Range.{each, each-at}
 use Rattle.block.specs.Block.{ones}
 
 -- the ones of an exclusive or are those of both, less twice the common ones
-common : (n a b : ℕ) → onesIn n (bitXor a b) + onesIn n (bitAnd a b) * 2 ≡ onesIn n a + onesIn n b
+pub common : (n a b : ℕ) → onesIn n (bitXor a b) + onesIn n (bitAnd a b) * 2 ≡ onesIn n a + onesIn n b
 unfolding onesIn
 common zero a b = refl
 common (suc n) a b =

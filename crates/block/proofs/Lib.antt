@@ -5,6 +5,7 @@ pub mod Apart
 pub mod Encoding
 pub mod Reading
 pub mod Results
+pub mod Lanes
 pub mod Turns
 pub mod Theorems
 pub mod Bench

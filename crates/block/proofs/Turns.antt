@@ -2,8 +2,8 @@
 use mathlib.Core.Path.{_≡_, refl, sym, ap, ap₂, _∙_}
 use mathlib.Core.Bool.{true, false}
 use mathlib.Core.List.{List, [], _∷_, _++_}
-use Prim.Native.Nat.{ℕ, suc, _+_, _%_, _<_, _≤_}
-use native.Mathlib.Nat.{not-suc-le-zero, add-zero}
+use Prim.Native.Nat.{ℕ, suc, _+_, _*_, _/_, _%_, _<_, _≤_}
+use native.Mathlib.Nat.{not-suc-le-zero}
 use native.Mathlib.Numerals.{add-one}
 use native.Mathlib.Decide.{decLt}
 use native.Mathlib.Omega.{arith}
@@ -11,81 +11,157 @@ use borrow.Author.Count.{below-none, below-more}
 use lib.ListN.{length, getD, set, take, drop, length-map, length-set, List·getD-eq-default}
 use lib.Seq.{drop-cons, drop-length, take-suc, take-length, set-at, append-snoc, length-take-le}
 use lib.Bits.{bitXor, xor-zero-r}
-use Rattle.numbers.proofs.Xor.{xor-assoc}
+use Rattle.numbers.proofs.Cases.{pos-of-not-zero}
+use Rattle.numbers.proofs.Xor.{xor-assoc, xor-undo}
 use Rattle.refusal.specs.Promise.{Tells}
 use Rattle.refusal.proofs.Laws.{tells-yes, tells-no}
+use Rattle.field.specs.Field.{sum, total}
+use Rattle.field.proofs.Totals.{total-none, total-front}
+use Rattle.eights.specs.Inside.{byte, Holds, eightFrom}
+use Rattle.eights.proofs.Laws.{none-byte}
+use Rattle.eights.proofs.Turns.{holds-at, eight-more}
 use Rattle.block.specs.Block.{Bytes, ones, Sevens}
 use Rattle.block.specs.Inside.{oddRows, summed, wanted, Counted, checked, withChecks, encoded}
+use Rattle.block.specs.Lanes.{count, CountedTo, OddBytes, SomeByte}
 use Rattle.block.proofs.Encoding.{checks-at, summed-snoc}
+use Rattle.block.proofs.Lanes.{bytes-counted, count-same, count-most, count-append, count-front}
 
--- ---- the faults of rows
-
--- the first i rows are counted
-pub record CountedTo (rows : List ℕ) (i odd row columns : ℕ) : Type 0 where
-  pub most : i ≤ length rows
-  pub few : odd ≤ i
-  pub rows-odd : odd + oddRows (drop i rows) ≡ oddRows rows
-  pub columns-odd : bitXor columns (summed (drop i rows)) ≡ bitXor wanted (summed rows)
-  pub inside : 0 < length rows → row < length rows
-  pub row-odd : 0 < odd → ones (getD rows row 0) % 2 ≡ 1
-
-pub counted-none : (rows : List ℕ) (columns : ℕ) → columns ≡ wanted → CountedTo rows 0 0 0 columns
-counted-none rows columns e =
-    record {
-      most = omega arith;
-      few = omega arith;
-      rows-odd = omega arith;
-      columns-odd = ap (λ (c : ℕ). bitXor c (summed rows)) e;
-      inside = λ h. h;
-      row-odd = λ h. absurd (not-suc-le-zero h);
-    }
-
-odd-drop : (rows : List ℕ) (i : ℕ) → i < length rows → oddRows (drop i rows) ≡ ones (getD rows i 0) % 2 + oddRows (drop (i + 1) rows)
-unfolding oddRows
-odd-drop rows i h = rw (add-one, drop-cons rows i 0) refl
-
-summed-drop : (rows : List ℕ) (i c : ℕ) → i < length rows → bitXor (bitXor c (getD rows i 0)) (summed (drop (i + 1) rows)) ≡ bitXor c (summed (drop i rows))
-unfolding summed
-summed-drop rows i c h = rw (add-one, drop-cons rows i 0) (xor-assoc c (getD rows i 0) (summed (drop (suc i) rows)))
+-- ---- the faults of rows, one at a time
 
 module _ (rows : List ℕ) (i odd row columns n odd′ row′ : ℕ) (t : CountedTo rows i odd row columns) (h : i < length rows) (c : n ≡ ones (getD rows i 0)) where
+  columns-next : bitXor columns (getD rows i 0) ≡ bitXor wanted (total (i + 1) (λ a. getD rows a 0))
+  unfolding total sum
+  columns-next =
+      rw (add-one i, t .columns-odd) (xor-assoc wanted (total i (λ a. getD rows a 0)) (getD rows i 0))
+
+  odd-next : count (i + 1) (λ a. ones (getD rows a 0) % 2) ≡ count i (λ a. ones (getD rows a 0) % 2) + n % 2
+  unfolding count
+  odd-next = rw (add-one i, c) refl
+
   pub counted-odd : n % 2 ≡ 1 → odd′ ≡ odd + 1 → row′ ≡ i → CountedTo rows (i + 1) odd′ row′ (bitXor columns (getD rows i 0))
   counted-odd e o r =
-      let d : oddRows (drop i rows) ≡ ones (getD rows i 0) % 2 + oddRows (drop (i + 1) rows) = odd-drop rows i h in
       record {
         most = omega arith;
         few = omega arith;
-        rows-odd = omega arith;
-        columns-odd = summed-drop rows i columns h ∙ t .columns-odd;
+        rows-odd = omega (arith, odd-next);
+        columns-odd = columns-next;
         inside = λ _. omega arith;
         row-odd = λ _. rw (r, ← c) e;
       }
 
   pub counted-even : (n % 2 ≡ 1 → ⊥) → odd′ ≡ odd → row′ ≡ row → CountedTo rows (i + 1) odd′ row′ (bitXor columns (getD rows i 0))
   counted-even e o r =
-      let d : oddRows (drop i rows) ≡ ones (getD rows i 0) % 2 + oddRows (drop (i + 1) rows) = odd-drop rows i h in
       record {
         most = omega arith;
         few = omega arith;
-        rows-odd = omega arith;
-        columns-odd = summed-drop rows i columns h ∙ t .columns-odd;
+        rows-odd = omega (arith, odd-next);
+        columns-odd = columns-next;
         inside = λ k. rw r (t .inside k);
         row-odd = λ k. rw r (t .row-odd (omega arith));
       }
 
+odd-rows-count : (rows : List ℕ) → oddRows rows ≡ count (length rows) (λ a. ones (getD rows a 0) % 2)
+unfolding oddRows count
+odd-rows-count [] = refl
+odd-rows-count (x ∷ xs) =
+    ap (λ (n : ℕ). ones x % 2 + n) (odd-rows-count xs) ∙ sym (count-front (length xs) (λ a. ones (getD (x ∷ xs) a 0) % 2))
+
+summed-total : (rows : List ℕ) → summed rows ≡ total (length rows) (λ a. getD rows a 0)
+unfolding summed total sum
+summed-total [] = refl
+summed-total (x ∷ xs) = ap (bitXor x) (summed-total xs) ∙ sym (total-front (length xs) (λ a. getD (x ∷ xs) a 0))
+
 pub counted-all : (rows : List ℕ) (i odd row columns : ℕ) → Bytes rows → CountedTo rows i odd row columns → length rows ≤ i
     → Counted rows (record { rows = odd; row = row; columns = columns })
-unfolding oddRows summed
 counted-all rows i odd row columns b t h =
     let e : i ≡ length rows = omega arith in
-    let d : drop i rows ≡ [] = rw e (drop-length rows) in
     record {
       bytes = b;
-      rows-odd = sym (add-zero odd) ∙ (rw d at (t .rows-odd));
-      columns-odd = sym (xor-zero-r columns) ∙ (rw d at (t .columns-odd));
+      rows-odd = t .rows-odd ∙ ap (λ (n : ℕ). count n (λ a. ones (getD rows a 0) % 2)) e ∙ sym (odd-rows-count rows);
+      columns-odd = t .columns-odd ∙ ap (λ (n : ℕ). bitXor wanted (total n (λ a. getD rows a 0))) e ∙ ap (bitXor wanted) (sym (summed-total rows));
       inside = t .inside;
       row-odd = t .row-odd;
     }
+
+-- ---- eight at a time: the columns are the bytes of z
+
+pub record EightsTo (rows : List ℕ) (i odd row z : ℕ) : Type 0 where
+  pub eights : i % 8 ≡ 0
+  pub counted : CountedTo rows i odd row (bitXor wanted (total 8 (byte z)))
+
+pub eights-none : (rows : List ℕ) → EightsTo rows 0 0 0 0
+unfolding count total
+eights-none rows =
+    record {
+      eights = refl;
+      counted = record {
+        most = omega arith;
+        few = omega arith;
+        rows-odd = refl;
+        columns-odd = ap (bitXor wanted) (total-none 8 (byte 0) (λ k l. none-byte k));
+        inside = λ h. h;
+        row-odd = λ h. absurd (not-suc-le-zero h);
+      };
+    }
+
+module _ (rows : List ℕ) (i odd row z x p odd′ row′ : ℕ) (t : EightsTo rows i odd row z) (h : i + 8 ≤ length rows) (s : Holds (eightFrom rows i) x) (o : OddBytes x p) where
+  odd-byte : (k : ℕ) → k < 8 → byte p k ≡ ones (getD rows (i + k) 0) % 2
+  odd-byte k l = o .at k l ∙ ap (λ (r : ℕ). ones r % 2) (holds-at rows i x s k l)
+
+  odd-bit : (k : ℕ) → k < 8 → byte p k ≤ 1
+  odd-bit k l = omega (arith, odd-byte k l)
+
+  counted-here : p % 255 ≡ count 8 (byte p)
+  counted-here = bytes-counted 8 p (omega arith) (o .small) odd-bit
+
+  few-here : p % 255 ≤ 8
+  few-here = omega (arith, counted-here, count-most 8 (byte p) odd-bit)
+
+  count-more : count (i + 8) (λ a. ones (getD rows a 0) % 2) ≡ odd + p % 255
+  count-more =
+      count-append i 8 (λ a. ones (getD rows a 0) % 2)
+      ∙ ap₂ _+_ (sym (t .counted .rows-odd)) (count-same 8 (λ k. ones (getD rows (i + k) 0) % 2) (byte p) (λ k l. sym (odd-byte k l)) ∙ sym counted-here)
+
+  columns-more : bitXor wanted (total 8 (byte (bitXor z x))) ≡ bitXor wanted (total (i + 8) (λ a. getD rows a 0))
+  columns-more =
+      let e : total 8 (byte z) ≡ total i (λ a. getD rows a 0) =
+      sym (xor-undo wanted (total 8 (byte z))) ∙ ap (bitXor wanted) (t .counted .columns-odd) ∙ xor-undo wanted (total i (λ a. getD rows a 0))
+      in ap (bitXor wanted) (eight-more rows i z x e (holds-at rows i x s))
+
+  pub eights-odd : (p ≡ 0 → ⊥) → (k : ℕ) → SomeByte p k → odd′ ≡ odd + p % 255 → row′ ≡ i + k → EightsTo rows (i + 8) odd′ row′ (bitXor z x)
+  eights-odd d k f e r =
+      let l : k < 8 = f .inside d in
+      record {
+        eights = omega (arith, t .eights);
+        counted = record {
+          most = omega arith;
+          few = omega (arith, t .counted .few, few-here);
+          rows-odd = e ∙ sym count-more;
+          columns-odd = columns-more;
+          inside = λ _. omega arith;
+          row-odd = λ _. rw r (omega (arith, odd-byte k l, pos-of-not-zero (byte p k) (f .is d)));
+        };
+      }
+
+  pub eights-even : p ≡ 0 → odd′ ≡ odd → row′ ≡ row → EightsTo rows (i + 8) odd′ row′ (bitXor z x)
+  eights-even d e r =
+      record {
+        eights = omega (arith, t .eights);
+        counted = record {
+          most = omega arith;
+          few = omega (arith, t .counted .few);
+          rows-odd = omega (arith, count-more);
+          columns-odd = columns-more;
+          inside = λ k. rw r (t .counted .inside k);
+          row-odd = λ k. rw r (t .counted .row-odd (omega arith));
+        };
+      }
+
+pub eights-all : (rows : List ℕ) (i odd row z c : ℕ) → EightsTo rows i odd row z → length rows < i + 8 → c ≡ total 8 (byte z)
+    → CountedTo rows (length rows / 8 * 8) odd row (bitXor wanted c)
+eights-all rows i odd row z c t h e =
+    let j : i ≡ length rows / 8 * 8 = omega (arith, t .eights, t .counted .most) in
+    rw (e, ← j) (t .counted)
 
 -- ---- data rows of seven bits
 

@@ -2,3 +2,4 @@
 pub mod Block
 pub mod Promises
 pub mod Inside
+pub mod Lanes

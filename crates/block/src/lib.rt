@@ -1,11 +1,13 @@
 // Parity blocks: reading within one bit, and encoding.
 ghost use mathlib.Core.Path.{_≡_};
-ghost use Prim.Native.Nat.{_+_};
+ghost use Prim.Native.Nat.{_+_, _*_, _/_, _≤_};
 ghost use lib.ListN.{length};
+ghost use Rattle.eights.specs.Inside.{Holds, eightFrom};
 ghost use Rattle.block.specs.Block.{ones, Sevens};
 ghost use Rattle.block.specs.Promises.{readingNumbers, encodingNumbers, Reads, Encodes};
 ghost use Rattle.refusal.specs.Promise.{Tells};
 ghost use Rattle.block.specs.Inside.{Counted, checked, encoded};
+ghost use Rattle.block.specs.Lanes.{CountedTo, OddBytes, SomeByte};
 use refusal::Refusal;
 
 // The exclusive or of the rows of a proper block: bit j is the parity of column j.
@@ -41,10 +43,11 @@ fn ones_of(x: u8) -> u8
 fn faults_of(rows: &[u8]) -> Faults
     ensures { λ r. ⌜ Counted (now (rows .entry)) r ⌝ }
 {
-    let mut odd: usize = 0;
-    let mut row: usize = 0;
-    let mut columns = COLUMNS;
-    let mut i: usize = 0;
+    let first = faults_of_eights(rows);
+    let mut odd = first.rows;
+    let mut row = first.row;
+    let mut columns = first.columns;
+    let mut i = rows.len() / 8 * 8;
     while i < rows.len() {
         let x = rows[i];
         if ones_of(x) % 2 == 1 {
@@ -59,6 +62,66 @@ fn faults_of(rows: &[u8]) -> Faults
         row: row,
         columns: columns,
     }
+}
+
+// What is wrong with the first rows, eight at once; fewer than eight are left. As 256 is 1 modulo 255, a remainder counts the odd rows of eight.
+fn faults_of_eights(rows: &[u8]) -> Faults
+    ensures { λ r. ⌜ CountedTo (now (rows .entry)) (length (now (rows .entry)) / 8 * 8) (r .rows) (r .row) (r .columns) ⌝ }
+{
+    let n = rows.len();
+    let mut odd: usize = 0;
+    let mut row: usize = 0;
+    let mut z: u64 = 0;
+    let mut i: usize = 0;
+    while i + 8 <= n {
+        let x = eight_rows(rows, i);
+        let p = odd_bytes(x);
+        if p != 0 {
+            odd += (p % 255) as usize;
+            row = i + some_byte(p);
+        }
+        z = z ^ x;
+        i += 8;
+    }
+    Faults {
+        rows: odd,
+        row: row,
+        columns: COLUMNS ^ eights::folded(z),
+    }
+}
+
+// Eight rows in one number.
+fn eight_rows(rows: &[u8], i: usize) -> u64
+    requires { ⌜ i + 8 ≤ length (now rows) ⌝ }
+    ensures { λ r. ⌜ Holds (eightFrom (now (rows .entry)) i) r ⌝ }
+{
+    eights::eight(
+        rows[i],
+        rows[i + 1],
+        rows[i + 2],
+        rows[i + 3],
+        rows[i + 4],
+        rows[i + 5],
+        rows[i + 6],
+        rows[i + 7],
+    )
+}
+
+// For each of eight bytes, whether it is odd: its halves added, and the halves of that, until one bit is left.
+fn odd_bytes(x: u64) -> u64
+    ensures { λ r. ⌜ OddBytes x r ⌝ }
+{
+    let y = x ^ (x >> 4);
+    let z = y ^ (y >> 2);
+    let w = z ^ (z >> 1);
+    w & 0x0101_0101_0101_0101
+}
+
+// The lowest byte that is not 0.
+fn some_byte(p: u64) -> usize
+    ensures { λ r. ⌜ SomeByte p r ⌝ }
+{
+    (u64::trailing_zeros(p) / 8) as usize
 }
 
 // Reads a block: writes the proper block within one bit of the rows. Odd rows and wrong columns are

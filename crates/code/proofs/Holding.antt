@@ -7,12 +7,11 @@ use Prim.Native.Nat.{ℕ, zero, suc, _+_, _-_, _*_, _/_, _%_, _^_, _<_, _≤_}
 use native.Mathlib.Nat.{eq-or-lt-of-le, le-of-suc-le-suc, add-zero, add-suc, suc-add, zero-add, pow-suc, le-trans, le-of-eq, mod-eq-of-lt}
 use native.Mathlib.Omega.{arith}
 use borrow.Author.Count.{below-none, below-more}
-use lib.Bits.{bitXor, xor-shr, xor-mod}
+use lib.Bits.{bitXor, xor-mod}
 use lib.Dec.{T, ltb, lt→ltb}
 use lib.ListN.{length, getD, set, length-set}
 use lib.Seq.{getD-set-same, getD-set-other, ext-getD}
 use Rattle.field.specs.Field.{sum}
-use Rattle.field.proofs.Laws
 use Rattle.lanes.specs.Lanes.{pack, lane}
 use Rattle.lanes.proofs.Laws.{lane-lt, lane-zero, lane-suc, pack-same, pack-lt, lane-pack, lane-xor, lane-after, pack-lanes, pack-last, pack-split}
 use Rattle.code.specs.declared.Eleven.{Eleven}
@@ -236,13 +235,10 @@ module _ (w : List ℕ) (r : PackedSums) (h : Packed w r) where
   unfolding lane f
   last-one = outer-lane 9 (omega arith)
 
-  pub first-fits : r .outer % 1073741824 + r .middle % 64 * 1073741824 + r .outer / 1073741824 % 16777216 * 68719476736 < 18446744073709551616
-  first-fits = omega arith
-
   pub sums-in-order : PowerSums w (eleven (record {
-      first = r .outer % 1073741824 + r .middle % 64 * 1073741824 + r .outer / 1073741824 % 16777216 * 68719476736;
-      last = r .outer / 18014398509481984 % 64;
-    }))
+    first = r .outer % 1073741824 + r .middle % 64 * 1073741824 + r .outer / 1073741824 % 16777216 * 68719476736;
+    last = r .outer / 18014398509481984 % 64;
+  }))
   unfolding f
   sums-in-order =
       let e : Eleven = record {

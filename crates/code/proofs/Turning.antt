@@ -90,17 +90,6 @@ reversed-reversed s r w =
     Orders.picked-picked (λ a. (s + 63 - a) % 63) (λ a. (r + 63 - a) % 63) w (Orders.reversed-order s)
     ∙ Orders.picked-same (λ a. (r + 63 - (s + 63 - a) % 63) % 63) (λ a. (r + (63 - s % 63) + a) % 63) w (λ a h. omega arith)
 
--- back again
-pub reversed-twice : (s : ℕ) (w : List ℕ) → length w ≡ 63 → reversed s (reversed s w) ≡ w
-unfolding reversed Orders.picked
-reversed-twice s w l =
-    Orders.picked-picked (λ a. (s + 63 - a) % 63) (λ a. (s + 63 - a) % 63) w (Orders.reversed-order s)
-    ∙ Orders.picked-none (λ a. (s + 63 - (s + 63 - a) % 63) % 63) w l (λ a h. omega arith)
-
-pub turned-back : (k : ℕ) (w : List ℕ) → length w ≡ 63 → turned (63 - k % 63) (turned k w) ≡ w
-turned-back k w l =
-    turned-turned (63 - k % 63) k w ∙ sym (turned-mod (k + (63 - k % 63)) w) ∙ ap (λ (n : ℕ). turned n w) (omega arith) ∙ turned-none w l
-
 -- ---- the weight and the distance
 
 pub weight-turned : (k : ℕ) (w : List ℕ) → length w ≡ 63 → weight (turned k w) ≡ weight w

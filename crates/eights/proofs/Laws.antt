@@ -21,7 +21,7 @@ byte-lt : (n k : ℕ) → byte n k < 256
 unfolding byte
 byte-lt n k = omega arith
 
-byte-zero : (n : ℕ) → byte n 0 ≡ n % 256
+pub byte-zero : (n : ℕ) → byte n 0 ≡ n % 256
 unfolding byte
 byte-zero n = ap (λ (m : ℕ). m % 256) (div-one n)
 
@@ -33,6 +33,19 @@ none-byte k = ap (λ (m : ℕ). m % 256) (zero-div (2 ^ (8 * k)))
 pub byte-shift : (n m k : ℕ) → byte (n / 2 ^ (8 * m)) k ≡ byte n (m + k)
 unfolding byte
 byte-shift n m k = ap (λ (d : ℕ). d % 256) (shr-shr n (8 * m) (8 * k) ∙ ap (λ (e : ℕ). n / 2 ^ e) (sym (mul-add 8 m k)))
+
+-- numbers of j bytes are equal when their bytes are
+pub same-bytes : (j m n : ℕ) → m < 2 ^ (8 * j) → n < 2 ^ (8 * j) → ((k : ℕ) → k < j → byte m k ≡ byte n k) → m ≡ n
+same-bytes zero m n hm hn f = omega arith
+same-bytes (suc j) m n hm hn f =
+    let low : m % 256 ≡ n % 256 = sym (byte-zero m) ∙ f 0 (omega arith) ∙ byte-zero n in
+    let rest : m / 256 ≡ n / 256 =
+    same-bytes j (m / 256) (n / 256) (shr-lt (8 * j) 8 (rw (mul-suc 8 j) at hm)) (shr-lt (8 * j) 8 (rw (mul-suc 8 j) at hn))
+    (λ k h. next m k ∙ f (suc k) (omega arith) ∙ sym (next n k))
+    in omega arith
+  where
+    next : (p k : ℕ) → byte (p / 256) k ≡ byte p (suc k)
+    next p k = byte-shift p 1 k ∙ ap (byte p) (one-add k)
 
 -- ---- bytes joined
 
@@ -72,7 +85,7 @@ byte-or : (m n k : ℕ) → byte (bitOr m n) k ≡ bitOr (byte m k) (byte n k)
 unfolding byte
 byte-or m n k = ap (λ (d : ℕ). d % 256) (or-shr m n (8 * k)) ∙ or-mod (m / 2 ^ (8 * k)) (n / 2 ^ (8 * k)) 8
 
-byte-and : (m n k : ℕ) → byte (bitAnd m n) k ≡ bitAnd (byte m k) (byte n k)
+pub byte-and : (m n k : ℕ) → byte (bitAnd m n) k ≡ bitAnd (byte m k) (byte n k)
 unfolding byte
 byte-and m n k = ap (λ (d : ℕ). d % 256) (and-shr m n (8 * k)) ∙ and-mod (m / 2 ^ (8 * k)) (n / 2 ^ (8 * k)) 8
 
@@ -111,20 +124,10 @@ none-high : (n : ℕ) → bitAnd n high ≡ 0 → LowEight n
 none-high n e k h =
     low-byte (byte n k) (byte-lt n k) (sym (byte-high n k h) ∙ ap (λ (m : ℕ). byte m k) e ∙ none-byte k)
 
--- a number of m bytes that are all 0
-no-bytes : (m n : ℕ) → n < 2 ^ (8 * m) → ((k : ℕ) → k < m → byte n k ≡ 0) → n ≡ 0
-no-bytes zero n h f = omega arith
-no-bytes (suc m) n h f =
-    let l : n % 256 ≡ 0 = sym (byte-zero n) ∙ f 0 (omega arith) in
-    let u : n / 256 ≡ 0 =
-    no-bytes m (n / 256) (shr-lt (8 * m) 8 (rw (mul-suc 8 m) at h))
-    (λ k b. byte-shift n 1 k ∙ ap (byte n) (one-add k) ∙ f (suc k) (omega arith))
-    in omega arith
-
 low-none : (n : ℕ) → LowEight n → bitAnd n high ≡ 0
 low-none n f =
-    no-bytes 8 (bitAnd n high) (omega (arith, and-le-r n high))
-    (λ k h. let l : byte n k < 64 = f k h in byte-high n k h ∙ (omega arith))
+    same-bytes 8 (bitAnd n high) 0 (omega (arith, and-le-r n high)) (omega arith)
+    (λ k h. let l : byte n k < 64 = f k h in byte-high n k h ∙ (omega arith) ∙ sym (none-byte k))
 
 pub mask-tells : (n : ℕ) → Tells (LowEight n) (eqb (bitAnd n high) 0)
 mask-tells n =

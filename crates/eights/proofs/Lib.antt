@@ -1,3 +1,4 @@
--- The bytes of a number, and the turns of the code.
+-- The bytes of a number, the turns of the code, and the theorem that bytes fix a number.
 pub mod Laws
 pub mod Turns
+pub mod Theorems

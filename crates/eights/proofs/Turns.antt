@@ -38,7 +38,7 @@ from-at w i (suc (suc (suc (suc (suc (suc (suc zero))))))) h = refl
 from-at w i (suc (suc (suc (suc (suc (suc (suc (suc k)))))))) h = absurd (omega arith)
 
 module _ (w : List ℕ) (i n : ℕ) (s : Holds (eightFrom w i) n) where
-  holds-at : (k : ℕ) → k < 8 → byte n k ≡ getD w (i + k) 0
+  pub holds-at : (k : ℕ) → k < 8 → byte n k ≡ getD w (i + k) 0
   holds-at k h = s .at k ∙ from-at w i k h
 
   holds-past : (k : ℕ) → 8 ≤ k → byte n k ≡ 0
@@ -131,7 +131,7 @@ pub xor-start : (w : List ℕ) → 8 ≤ length w → XorTo w 0 0
 unfolding total
 xor-start w h = record { most = omega arith; passed = total-none 8 (byte 0) (λ k l. none-byte k) }
 
-eight-more : (w : List ℕ) (i z n : ℕ) → total 8 (byte z) ≡ total i (λ a. getD w a 0) → ((k : ℕ) → k < 8 → byte n k ≡ getD w (i + k) 0)
+pub eight-more : (w : List ℕ) (i z n : ℕ) → total 8 (byte z) ≡ total i (λ a. getD w a 0) → ((k : ℕ) → k < 8 → byte n k ≡ getD w (i + k) 0)
     → total 8 (byte (bitXor z n)) ≡ total (i + 8) (λ a. getD w a 0)
 eight-more w i z n e f =
     total-same 8 (byte (bitXor z n)) (λ k. sum (byte z k) (byte n k)) (λ k l. byte-xor z n k) ∙ total-sum 8 (byte z) (byte n)

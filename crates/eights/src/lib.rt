@@ -54,7 +54,7 @@ fn eight_low(met: u64) -> bool
 }
 
 // The exclusive or of the eight bytes of a number.
-fn folded(z: u64) -> u8
+pub fn folded(z: u64) -> u8
     ensures { λ r. ⌜ r ≡ total 8 (byte z) ⌝ }
 {
     let y = z ^ (z >> 32);
@@ -107,7 +107,7 @@ fn byte_at(bytes: &[u8], a: usize) -> u8
 }
 
 // Eight bytes as one number, the first lowest: the compiler makes one load of it.
-fn eight(a: u8, b: u8, c: u8, d: u8, e: u8, f: u8, g: u8, h: u8) -> u64
+pub fn eight(a: u8, b: u8, c: u8, d: u8, e: u8, f: u8, g: u8, h: u8) -> u64
     ensures { λ r. ⌜ Holds (a ∷ b ∷ c ∷ d ∷ e ∷ f ∷ g ∷ h ∷ []) r ⌝ }
 {
     wide(a)

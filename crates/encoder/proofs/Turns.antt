@@ -4,24 +4,30 @@ use mathlib.Core.Bool.{Bool, true, false}
 use mathlib.Core.Logic.{inl, inr}
 use mathlib.Core.List.{List, [], _∷_, _++_, append-nil, append-assoc}
 use Prim.Native.Nat.{ℕ, suc, _+_, _-_, _/_, _%_, _<_, _≤_}
-use native.Mathlib.Nat.{zero-add}
+use native.Mathlib.Nat.{add-zero, zero-add}
 use native.Mathlib.Numerals.{add-one}
 use native.Mathlib.Omega.{arith}
 use borrow.Author.Count.{below-more}
-use lib.Bits.{bitXor}
+use lib.Bits.{bitXor, bitOr, or-add-and, or-comm, or-lt, and-le-r}
+use lib.Dec.{T, eqb, eqb→eq}
 use lib.ListN.{length, getD, set, take, drop, replicate, length-append, length-take, length-drop, length-set, List·getD-eq-default, drop-of-length-le}
 use lib.Seq.{ext-getD, getD-set-same, getD-set-other, take-length, take-at, set-at}
+use Rattle.numbers.proofs.Range.{each, each-at}
 use Rattle.field.specs.Field.{sum, product, total}
 use Rattle.field.proofs.Laws
-use Rattle.lanes.specs.Lanes.{lane}
-use Rattle.lanes.proofs.Laws.{lane-zero, lane-suc}
+use Rattle.lanes.specs.Lanes.{pack, lane}
+use Rattle.lanes.proofs.Laws.{lane-zero, lane-suc, lane-pack}
 use Rattle.code.specs.Word.{Characters}
 use Rattle.code.specs.Inside.{PowerSums}
+use Rattle.code.proofs.Words.{characters-below}
 use Rattle.refusal.specs.Promise.{Tells}
+use Rattle.refusal.proofs.Laws.{tells-yes, tells-no}
 use Rattle.encoder.specs.declared.Register.{Register}
+use Rattle.encoder.specs.declared.Stepped.{Stepped}
+use Rattle.encoder.specs.declared.StepAnswer.{StepAnswer}
 use Rattle.encoder.specs.Division.{remainder}
 use Rattle.encoder.specs.Register.{stepped, checksOf}
-use Rattle.encoder.specs.Promises.{LineWith, Encodes, Steps, Checks}
+use Rattle.encoder.specs.Promises.{LineWith, Encodes, stepNumbers, Steps, Checks}
 use Rattle.encoder.specs.Interpolation.{ChecksWith, eleven}
 use Rattle.encoder.specs.Inside.{information, encoded}
 use Rattle.encoder.proofs.Division.{below, lower}
@@ -31,23 +37,45 @@ use Rattle.encoder.proofs.Interpolation.{eleven-long, eleven-lane, elev
 
 -- ---- a step of the division
 
--- the first i places of the next register are known
-pub record DividedTo (held : List ℕ) (c feedback : ℕ) (left : List ℕ) (i : ℕ) : Type 0 where
+-- the coefficients that the code has in lanes
+middle-test : T (each 10 (λ i. eqb (lane 377473087143165780 i) (getD below i 0)))
+unfolding lane
+middle-test = tt
+
+middle-lane : (i : ℕ) → i < 10 → lane 377473087143165780 i ≡ getD below i 0
+middle-lane i h =
+    eqb→eq (lane 377473087143165780 i) (getD below i 0) (each-at 10 (λ i. eqb (lane 377473087143165780 i) (getD below i 0)) middle-test i h)
+
+-- the first i places of the next register are known, and rest holds the multiples that the others are to get
+pub record DividedTo (held : List ℕ) (c feedback rest : ℕ) (left : List ℕ) (i : ℕ) : Type 0 where
   pub most : i ≤ 10
   pub long : length held ≡ 11
   pub room : length left ≡ 11
   pub back : feedback ≡ sum (getD held 0 0) c
+  pub after : (k : ℕ) → i + k < 10 → lane rest k ≡ product feedback (getD below (i + k) 0)
   pub places : (k : ℕ) → k < i → getD left k 0 ≡ getD (stepped held c) k 0
 
-pub divided-none : (held : List ℕ) (c feedback : ℕ) (left : List ℕ) → length held ≡ 11 → length left ≡ 11 → feedback ≡ bitXor (getD held 0 0) c
-    → DividedTo held c feedback left 0
+pub divided-none : (held : List ℕ) (c feedback rest : ℕ) (left : List ℕ) → length held ≡ 11 → length left ≡ 11 → feedback ≡ bitXor (getD held 0 0) c
+    → rest ≡ pack 10 (λ k. product (lane 377473087143165780 k) feedback) → DividedTo held c feedback rest left 0
 unfolding sum
-divided-none held c feedback left h l e = record { most = omega arith; long = h; room = l; back = e; places = λ k b. absurd (omega arith) }
+divided-none held c feedback rest left h l e f =
+    record {
+      most = omega arith;
+      long = h;
+      room = l;
+      back = e;
+      after = λ k b.
+          ap (λ (p : ℕ). lane p k) f
+          ∙ lane-pack 10 (λ k. product (lane 377473087143165780 k) feedback) (λ k. Laws.product-lt (lane 377473087143165780 k) feedback) k (omega arith)
+          ∙ Laws.product-comm (lane 377473087143165780 k) feedback
+          ∙ ap (product feedback) (middle-lane k (omega arith) ∙ ap (λ (n : ℕ). getD below n 0) (sym (zero-add k)));
+      places = λ k b. absurd (omega arith);
+    }
 
 -- a place is stored
-divided-at : (held : List ℕ) (c feedback : ℕ) (left : List ℕ) (i v : ℕ) → DividedTo held c feedback left i → v ≡ getD (stepped held c) i 0
+divided-at : (held : List ℕ) (c feedback rest : ℕ) (left : List ℕ) (i v : ℕ) → DividedTo held c feedback rest left i → v ≡ getD (stepped held c) i 0
     → (k : ℕ) → k < i + 1 → getD (set left i v) k 0 ≡ getD (stepped held c) k 0
-divided-at held c feedback left i v t e =
+divided-at held c feedback rest left i v t e =
     below-more (λ (k : ℕ). getD (set left i v) k 0 ≡ getD (stepped held c) k 0) i
     (λ k m. getD-set-other left i k v 0 (λ q. omega arith) ∙ t .places k m)
     (getD-set-same left i v 0 (omega arith) ∙ e)
@@ -58,31 +86,71 @@ unfolding lower
 place-is held c feedback i t h b e =
     ap (sum (getD held (suc i) 0)) (e ∙ ap (λ (f : ℕ). product f (getD below i 0)) b) ∙ sym (stepped-get held c h i)
 
-pub divided-again : (held : List ℕ) (c feedback : ℕ) (left : List ℕ) (i t : ℕ) → i < 10 → DividedTo held c feedback left i
-    → t ≡ product feedback (getD below i 0) → DividedTo held c feedback (set left i (bitXor (getD held (i + 1) 0) t)) (i + 1)
+pub divided-again : (held : List ℕ) (c feedback rest : ℕ) (left : List ℕ) (i : ℕ) → i < 10 → DividedTo held c feedback rest left i
+    → DividedTo held c feedback (rest / 64) (set left i (bitXor (getD held (i + 1) 0) (rest % 64))) (i + 1)
 unfolding sum
-divided-again held c feedback left i t h d e =
+divided-again held c feedback rest left i h d =
+    let v : ℕ = bitXor (getD held (i + 1) 0) (rest % 64) in
+    let e : rest % 64 ≡ product feedback (getD below i 0) =
+    sym (lane-zero rest) ∙ d .after 0 (omega arith) ∙ ap (λ (n : ℕ). product feedback (getD below n 0)) (add-zero i) in
     record {
       most = omega arith;
       long = d .long;
-      room = length-set left i (bitXor (getD held (i + 1) 0) t) ∙ d .room;
+      room = length-set left i v ∙ d .room;
       back = d .back;
-      places = divided-at held c feedback left i (bitXor (getD held (i + 1) 0) t) d
-          (ap (λ (n : ℕ). bitXor (getD held n 0) t) (add-one i) ∙ place-is held c feedback i t (d .long) (d .back) e);
+      after = λ k b.
+          let n : i + suc k ≡ i + 1 + k = omega arith in
+          sym (lane-suc rest k) ∙ d .after (suc k) (omega arith) ∙ ap (λ (m : ℕ). product feedback (getD below m 0)) n;
+      places = divided-at held c feedback rest left i v d
+          (ap (λ (n : ℕ). bitXor (getD held n 0) (rest % 64)) (add-one i) ∙ place-is held c feedback i (rest % 64) (d .long) (d .back) e);
     }
 
 past-end : (l : List ℕ) → length l ≡ 11 → getD l 11 0 ≡ 0
 past-end l h = List·getD-eq-default l 0 (omega arith)
 
-pub divided-all : (held : List ℕ) (c feedback : ℕ) (left : List ℕ) (i t : ℕ) → 10 ≤ i → DividedTo held c feedback left i
-    → t ≡ product feedback (getD below 10 0) → set left 10 t ≡ stepped held c
-divided-all held c feedback left i t h d e =
+pub divided-all : (held : List ℕ) (c feedback rest : ℕ) (left : List ℕ) (i : ℕ) → 10 ≤ i → DividedTo held c feedback rest left i
+    → set left 10 (feedback % 64) ≡ stepped held c
+divided-all held c feedback rest left i h d =
     let j : i ≡ 10 = omega arith in
+    let t : ℕ = feedback % 64 in
+    let e : t ≡ product feedback 1 = sym (Laws.product-comm feedback 1 ∙ Laws.one-product-low feedback) in
     let v : t ≡ getD (stepped held c) 10 0 =
     sym (Laws.zero-sum t) ∙ ap (λ (z : ℕ). sum z t) (sym (past-end held (d .long))) ∙ place-is held c feedback 10 t (d .long) (d .back) e in
     let long : length (set left 10 t) ≡ 11 = length-set left 10 t ∙ d .room in
     ext-getD 0 (set left 10 t) (stepped held c) (long ∙ sym (stepped-long held c (d .long)))
-    (λ k b. divided-at held c feedback left 10 t (subst (DividedTo held c feedback left) j d) v k (omega arith))
+    (λ k b. divided-at held c feedback rest left 10 t (subst (DividedTo held c feedback rest left) j d) v k (omega arith))
+
+-- ---- whether what is held is in range
+
+-- all is below 64 exactly when the first i characters are
+pub record AllTo (held : List ℕ) (all i : ℕ) : Type 0 where
+  pub most : i ≤ 11
+  pub long : length held ≡ 11
+  pub tells : all < 64 → (k : ℕ) → k < i → getD held k 0 < 64
+  pub told : ((k : ℕ) → k < i → getD held k 0 < 64) → all < 64
+
+pub all-none : (held : List ℕ) → length held ≡ 11 → AllTo held 0 0
+all-none held h = record { most = omega arith; long = h; tells = λ l k b. absurd (omega arith); told = λ f. omega arith }
+
+or-left : (a b : ℕ) → bitOr a b < 64 → a < 64
+or-left a b h = omega (arith, or-add-and a b, and-le-r a b)
+
+pub all-again : (held : List ℕ) (all i : ℕ) → i < 11 → AllTo held all i → AllTo held (bitOr all (getD held i 0)) (i + 1)
+all-again held all i h t =
+    record {
+      most = omega arith;
+      long = t .long;
+      tells = λ l.
+          below-more (λ (k : ℕ). getD held k 0 < 64) i (t .tells (or-left all (getD held i 0) l))
+          (or-left (getD held i 0) all (subst (λ (n : ℕ). n < 64) (or-comm all (getD held i 0)) l));
+      told = λ f. or-lt 6 all (getD held i 0) (t .told (λ k b. f k (omega arith))) (f i (omega arith));
+    }
+
+pub all-over : (held : List ℕ) (all i : ℕ) → 11 ≤ i → AllTo held all i → 63 < all → Tells (Characters held) false
+all-over held all i h t l = tells-no (λ f. let b : all < 64 = t .told (λ k m. f k) in omega arith)
+
+pub all-low : (held : List ℕ) (all i : ℕ) → 11 ≤ i → AllTo held all i → all ≤ 63 → Tells (Characters held) true
+all-low held all i h t l = tells-yes (characters-below held 11 (omega (arith, t .long)) (λ k b. t .tells (omega arith) k (omega arith)))
 
 -- ---- the marks
 
@@ -206,6 +274,10 @@ module _ (t : List ℕ) (n : ℕ) (old : List ℕ) where
 -- ---- the ways out of a step
 
 module _ (r : Register) (c : ℕ) where
+  pub step-answered : (s : Stepped) (q : Register) (a : StepAnswer) → (s .register ≡ q) × (s .answer ≡ a) → Steps r c (stepNumbers a) q
+      → Steps r c (stepNumbers (s .answer)) (s .register)
+  step-answered s q a e p = rw (e .0) (rw (e .1) p)
+
   pub step-full : 52 ≤ r .count → Steps r c (11 ∷ []) r
   unfolding Steps
   step-full h = (inr (λ p. omega arith, refl), (refl, refl))

@@ -3,16 +3,17 @@ ghost use mathlib.Core.Path.{_≡_};
 ghost use mathlib.Core.List.{_++_};
 ghost use Prim.Native.Nat.{_≤_};
 ghost use lib.ListN.{length, getD, take, replicate};
+ghost use Rattle.refusal.specs.Promise.{Tells};
+ghost use Rattle.code.specs.Word.{Characters};
 ghost use Rattle.encoder.specs.Register.{empty, stepped, checksOf};
 ghost use Rattle.encoder.specs.Promises.{encodingNumbers, Encodes, stepNumbers, Steps, checkNumbers, Checks};
 ghost use Rattle.encoder.specs.Interpolation.{ChecksWith, eleven};
 ghost use Rattle.encoder.specs.Inside.{information};
 use code::in_range;
-use field::times;
 use refusal::Refusal;
 
-// The generator's coefficients below the highest, which is 1.
-const LOWER: [u8; 11] = [20, 61, 3, 28, 23, 23, 28, 3, 61, 20, 1];
+// The generator's coefficients but the highest and the lowest, which are 1, in lanes.
+const MIDDLE: u64 = 377473087143165780;
 
 // The answer of encoding a line at once.
 pub enum LineEncoding {
@@ -55,14 +56,42 @@ fn divided(held: [u8; 11], c: u8) -> [u8; 11]
     ensures { λ r. ⌜ r ≡ stepped held c ⌝ }
 {
     let feedback = held[0] ^ c;
+    let mut rest = lanes::scale_constant(MIDDLE, feedback);
     let mut left = [0u8; 11];
     let mut i: usize = 0;
     while i < 10 {
-        left[i] = held[i + 1] ^ times(feedback, LOWER[i]);
+        left[i] = held[i + 1] ^ (rest % 64) as u8;
+        rest = rest / 64;
         i += 1;
     }
-    left[10] = times(feedback, LOWER[10]);
+    left[10] = feedback % 64;
     left
+}
+
+// Whether each character that is held is at most 63, by one test of them all.
+fn held_in_range(held: [u8; 11]) -> bool
+    ensures { λ r. ⌜ Tells (Characters held) r ⌝ }
+{
+    let mut all: u8 = 0;
+    let mut i: usize = 0;
+    while i < 11 {
+        all = all | held[i];
+        i += 1;
+    }
+    if all > 63 {
+        return false;
+    }
+    true
+}
+
+// The register and the answer, written in one place.
+fn answered(register: Register, answer: StepAnswer) -> Stepped
+    ensures { λ r. ⌜ (r .register ≡ register) × (r .answer ≡ answer) ⌝ }
+{
+    Stepped {
+        register: register,
+        answer: answer,
+    }
 }
 
 // The eleven checks with these power sums, S_-5 first.
@@ -177,31 +206,19 @@ impl Register {
         ensures { λ r. ⌜ Steps self c (stepNumbers (r .answer)) (r .register) ⌝ }
     {
         if self.count >= 52 {
-            return Stepped {
-                register: self,
-                answer: StepAnswer::Refused(Refusal::RegisterFull),
-            };
+            return answered(self, StepAnswer::Refused(Refusal::RegisterFull));
         }
         let held = self.held;
-        if !in_range(&held) {
-            return Stepped {
-                register: self,
-                answer: StepAnswer::Refused(Refusal::ValueOver),
-            };
+        if !held_in_range(held) {
+            return answered(self, StepAnswer::Refused(Refusal::ValueOver));
         }
         if c > 63 {
-            return Stepped {
-                register: self,
-                answer: StepAnswer::Refused(Refusal::ValueOver),
-            };
+            return answered(self, StepAnswer::Refused(Refusal::ValueOver));
         }
         let left = divided(held, c);
         self.held = left;
         self.count = self.count + 1;
-        Stepped {
-            register: self,
-            answer: StepAnswer::Taken,
-        }
+        answered(self, StepAnswer::Taken)
     }
 
     // The checks of a register that has taken 52 characters; the register stays the caller's.
@@ -221,7 +238,7 @@ impl Register {
             };
         }
         let held = self.held;
-        if !in_range(&held) {
+        if !held_in_range(held) {
             return Checked {
                 checks: [0; 11],
                 answer: CheckAnswer::Refused(Refusal::ValueOver),

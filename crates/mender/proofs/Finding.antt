@@ -2,7 +2,7 @@
 use mathlib.Core.Path.{_≡_, refl, sym, ap, _∙_, subst}
 use mathlib.Core.Bool.{Bool, true, false, cond}
 use mathlib.Core.Logic.{inl, inr, ⊎-elim}
-use mathlib.Core.List.{List, []}
+use mathlib.Core.List.{List}
 use Prim.Native.Nat.{ℕ, zero, suc, min, _+_, _-_, _/_, _<_, _≤_}
 use native.Mathlib.Nat.{le-trans, le-of-eq}
 use native.Mathlib.Omega.{arith}
@@ -23,7 +23,7 @@ use Rattle.code.proofs.Distances.{distance-weight, distance-added}
 use Rattle.code.proofs.Sums.{powerSum-added}
 use Rattle.mender.specs.declared.Mended.{Mended}
 use Rattle.mender.specs.Mender.{Fits, MendsTo, Mends, Word, Nearest, HasSums}
-use Rattle.mender.specs.Inside.{mixed, coef, at, Spanned, First, Small, valueOf, ValuedFrom, Agree, Nothing}
+use Rattle.mender.specs.Inside.{mixed, coef, valueOf, ValuedFrom, Agree, Nothing}
 use Rattle.mender.proofs.Fitting.{Least, combines-more, value-is}
 
 pub true-false : true ≡ false → ⊥

@@ -110,31 +110,36 @@ module _ (s : List ℕ) (c e n : ℕ) (w : List ℕ) (enough : e ≤ n) (few : n
   reads : (q : ℕ → ℕ) (j : ℕ) → j < n → ((k : ℕ) → e < k → q k ≡ 0) → (k : ℕ) → (q k ≡ 0) ⊎ (j + k < c)
   reads q j l z k = ⊎-elim (λ (b : suc e ≤ k). inl (z k b)) (λ (b : k < suc e). inr (omega arith)) (le-or-lt (suc e) k)
 
-  -- a row is left, since the locator is made of the rows and is not 0
+  -- the locator has degree at most e, and combines the windows to 0
+  located : Locates w xs (locator w xs)
+  located = a-locator w xs xs-good xs-values
+
+  locator-degree : Degree e (coef (locator w xs))
+  locator-degree =
+      let l = located .degree in
+      let g = fits .light in
+      record { none = λ k b. List·getD-eq-default (locator w xs) 0 (omega arith); small = locator-elements w xs }
+
+  locator-kernel : (j : ℕ) → j < n → mixed (coef (locator w xs)) s j ≡ 0
+  locator-kernel j l =
+      (let d = located .degree in let g = fits .light in mixed-fits (locator w xs) j (omega arith) (reads (coef (locator w xs)) j l (locator-degree .none)))
+      ∙ located .combines (58 + j)
+
+  -- and is not 0 at 0, so some polynomial that does so is not
+  pub some-kernel : ((q : ℕ → ℕ) → Degree e q → ((j : ℕ) → j < n → mixed q s j ≡ 0) → q 0 ≡ 0) → ⊥
+  some-kernel z =
+      let g : 0 < getD (locator w xs) 0 0 = located .lowest in
+      let q : getD (locator w xs) 0 0 ≡ 0 = z (coef (locator w xs)) locator-degree locator-kernel in
+      omega arith
+
+  -- a row is left, since the locator is made of the rows
   module _ (m : List (List ℕ)) (a : Spanned s e n m) where
-    located : Locates w xs (locator w xs)
-    located = a-locator w xs xs-good xs-values
-
-    locator-degree : Degree e (coef (locator w xs))
-    locator-degree =
-        let l = located .degree in
-        let g = fits .light in
-        record { none = λ k b. List·getD-eq-default (locator w xs) 0 (omega arith); small = locator-elements w xs }
-
-    locator-kernel : (j : ℕ) → j < n → mixed (coef (locator w xs)) s j ≡ 0
-    locator-kernel j l =
-        (let d = located .degree in let g = fits .light in mixed-fits (locator w xs) j (omega arith) (reads (coef (locator w xs)) j l (locator-degree .none)))
-        ∙ located .combines (58 + j)
-
     pub some-row : ((i k : ℕ) → i < 6 → at m i k ≡ 0) → ⊥
     some-row z =
-        let g : 0 < getD (locator w xs) 0 0 = located .lowest in
-        let q : getD (locator w xs) 0 0 ≡ 0 =
-        sym (a .keeps (coef (locator w xs)) locator-degree locator-kernel 0)
-        ∙ total-none 6 (λ i. product (getD (locator w xs) i 0) (at m i 0))
-        (λ i l. ap (product (getD (locator w xs) i 0)) (z i 0 l) ∙ Laws.product-zero (getD (locator w xs) i 0))
-        in
-        omega arith
+        some-kernel
+        (λ q d h.
+        sym (a .keeps q d h 0)
+        ∙ total-none 6 (λ i. product (q i) (at m i 0)) (λ i l. ap (product (q i)) (z i 0 l) ∙ Laws.product-zero (q i)))
 
   -- and the first row left gives each value
   module _ (p : List ℕ) (r : ℕ) (a : Least s e n r p) where

@@ -1,12 +1,11 @@
 -- The value at a root is the quotient of two polynomials in its place: one of the locator and the sums, the other the locator's derivative.
-use mathlib.Core.Path.{_≡_, refl, sym, ap, ap₂, _∙_, subst}
+use mathlib.Core.Path.{_≡_, refl, sym, ap, ap₂, _∙_}
 use mathlib.Core.Logic.{⊎-elim}
 use mathlib.Core.List.{List, [], _∷_}
 use Prim.Native.Nat.{ℕ, zero, suc, _+_, _-_, _<_, _≤_}
-use native.Mathlib.Nat.{add-zero, zero-add, add-suc, suc-add}
+use native.Mathlib.Nat.{zero-add, add-suc, suc-add}
 use native.Mathlib.Omega.{arith}
 use lib.ListN.{getD, length, drop, List·getD-eq-default}
-use lib.Seq.{getD-drop}
 use borrow.Author.Tests.{eq-eqb, ne-eqb}
 use Rattle.numbers.proofs.Cases.{same-or-not}
 use Rattle.field.specs.Field.{sum, product, power, total}
@@ -188,7 +187,6 @@ module _ (p s : List ℕ) (x : ℕ) (wide : length p ≡ 6) where
 inverse-none : inverse 0 ≡ 0
 unfolding inverse power
 inverse-none = Laws.zero-product (power 0 61)
-
 
 -- where x is a root of the locator p, the value is the quotient
 pub value-is-quotient : (p s : List ℕ) (x n : ℕ) → length p ≡ 6 → polyAt p x ≡ 0 → Kills p s n

@@ -1,13 +1,13 @@
 -- From the packed rows to the ways out of the search: no row is left, or the first one is a locator.
-use mathlib.Core.Path.{_≡_, refl, sym, ap, ap₂, _∙_, subst}
+use mathlib.Core.Path.{_≡_, sym, ap, _∙_, subst}
 use mathlib.Core.Bool.{Bool, true, false}
 use mathlib.Core.List.{List}
 use Prim.Native.Nat.{ℕ, min, _+_, _-_, _/_, _%_, _<_, _≤_}
 use native.Mathlib.Nat.{mod-eq-of-lt, le-of-eq}
 use native.Mathlib.Omega.{arith}
-use lib.ListN.{getD, length}
+use lib.ListN.{getD}
 use Rattle.refusal.specs.Promise.{Tells}
-use Rattle.field.specs.Field.{product, total}
+use Rattle.field.specs.Field.{product}
 use Rattle.field.proofs.Totals.{total-same}
 use Rattle.lanes.specs.Lanes.{lane}
 use Rattle.lanes.proofs.Laws.{lane-lt}

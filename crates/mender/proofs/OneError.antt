@@ -3,10 +3,10 @@ use mathlib.Core.Path.{_≡_, refl, sym, ap, ap₂, _∙_, subst}
 use mathlib.Core.Bool.{true, false}
 use mathlib.Core.List.{List, [], _∷_}
 use mathlib.Core.Logic.{⊎-elim}
-use Prim.Native.Nat.{ℕ, zero, suc, _+_, _-_, _*_, _/_, _%_, _^_, _<_, _≤_}
-use native.Mathlib.Nat.{add-suc, add-zero, add-comm, mul-comm, add-mul, mod-eq-of-lt, pow-suc, zero-add, zero-mul, mul-right-comm, add-assoc, one-mul, le-of-eq}
+use Prim.Native.Nat.{ℕ, zero, suc, _+_, _-_, _*_, _/_, _%_, _<_}
+use native.Mathlib.Nat.{add-comm, mod-eq-of-lt, zero-add, add-assoc, le-of-eq}
 use native.Mathlib.Omega.{arith}
-use lib.ListN.{length, getD, replicate, set, length-set, length-replicate}
+use lib.ListN.{length, getD, replicate, set, length-set}
 use lib.Seq.{getD-set-same, getD-set-other}
 use Rattle.numbers.proofs.Cases.{pos-of-not-zero, same-or-not}
 use Rattle.field.specs.Field.{sum, product, α, power}
@@ -14,13 +14,13 @@ use Rattle.field.specs.Inside.{Divided}
 use Rattle.field.proofs.Laws
 use Rattle.field.proofs.Totals.{total-none}
 use Rattle.lanes.specs.Lanes.{pack, lane}
-use Rattle.lanes.proofs.Laws.{lane-lt, lane-suc, pack-same, pack-equal, pack-lanes, pack-last}
+use Rattle.lanes.proofs.Laws.{lane-suc, pack-same, pack-equal, pack-lanes, pack-last}
 use Rattle.places.specs.Logs.{LogOf}
 use Rattle.polynomial.specs.Sums.{weight, nonzero}
 use Rattle.code.specs.Word.{Characters, powerSum}
 use Rattle.code.specs.declared.Eleven.{Eleven}
 use Rattle.code.specs.Held.{eleven}
-use Rattle.code.proofs.Holding.{eleven-first, eleven-last, eleven-long, eleven-characters}
+use Rattle.code.proofs.Holding.{eleven-first, eleven-last, eleven-characters}
 use Rattle.code.proofs.Sums.{powerSum-set}
 use Rattle.mender.proofs.Finding.{true-false}
 use Rattle.mender.specs.Mender.{Fits}

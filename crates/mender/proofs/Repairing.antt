@@ -2,12 +2,12 @@
 use mathlib.Core.Path.{_≡_, refl, sym, ap, ap₂, _∙_, subst}
 use mathlib.Core.Bool.{Bool, true, false}
 use mathlib.Core.Logic.{⊎-elim}
-use mathlib.Core.List.{List, []}
-use Prim.Native.Nat.{ℕ, zero, suc, min, _+_, _-_, _*_, _/_, _%_, _^_, _<_, _≤_}
-use native.Mathlib.Nat.{le-trans, le-of-eq, zero-mul}
+use mathlib.Core.List.{List}
+use Prim.Native.Nat.{ℕ, zero, min, _+_, _-_, _*_, _/_, _%_, _<_, _≤_}
+use native.Mathlib.Nat.{le-trans, le-of-eq}
 use native.Mathlib.Omega.{arith}
-use borrow.Author.Count.{below-none, below-more}
-use lib.ListN.{getD, length, replicate, set, length-set, length-replicate, List·getD-eq-default}
+use borrow.Author.Count.{below-more}
+use lib.ListN.{getD, length, replicate, set, length-set, List·getD-eq-default}
 use lib.Seq.{ext-getD, getD-set-same, getD-set-other}
 use lib.Bits.{bitXor}
 use Rattle.numbers.proofs.Cases.{le-or-lt, same-or-not}
@@ -19,7 +19,7 @@ use Rattle.field.proofs.Totals.{total-same}
 use Rattle.lanes.specs.Lanes.{pack, lane}
 use Rattle.lanes.proofs.Laws.{lane-lt, lane-after, pack-same, pack-more, pack-last, pack-equal, pack-lanes, lane-pack}
 use Rattle.polynomial.specs.Sums.{weight}
-use Rattle.code.specs.Word.{Characters, powerSum, added, distance}
+use Rattle.code.specs.Word.{Characters, added}
 use Rattle.code.specs.Inside.{PowerSums}
 use Rattle.code.specs.declared.Eleven.{Eleven}
 use Rattle.code.specs.Held.{eleven, lowered}
@@ -28,9 +28,9 @@ use Rattle.code.proofs.Sums.{powerSum-lt}
 use Rattle.code.proofs.Holding.{eleven-first, eleven-last, eleven-long, eleven-characters}
 use Rattle.mender.specs.declared.Mended.{Mended}
 use Rattle.mender.specs.declared.Single.{Single}
-use Rattle.mender.specs.Mender.{Fits, MendsTo, Mends, Word, Nearest, HasSums}
+use Rattle.mender.specs.Mender.{Fits, MendsTo, Mends, Nearest, HasSums}
 use Rattle.mender.specs.Inside.{Nothing}
-use Rattle.mender.specs.Found.{lone, OneError, ElementsTo, Clear, Repaired, Repairs, sixth}
+use Rattle.mender.specs.Found.{lone, OneError, ElementsTo, Clear, Repairs, sixth}
 use Rattle.mender.proofs.OneError.{zero-get, lone-long, lone-here, lone-other, lone-weight, weight-nothing, sums-nothing}
 use Rattle.mender.proofs.Finding.{true-false, found-none, found-fits, none-near, one-near, nearest-none, mended}
 

@@ -1,15 +1,13 @@
 -- The values at the roots alone: from one set bit of the roots to the next, every place between has no value.
 use mathlib.Core.Path.{_≡_, refl, sym, ap, ap₂, _∙_, subst}
-use mathlib.Core.Bool.{true, false}
-use mathlib.Core.Logic.{_⊎_, inl, inr, ⊎-elim}
+use mathlib.Core.Logic.{_⊎_, ⊎-elim}
 use mathlib.Core.List.{List}
 use Prim.Native.Nat.{ℕ, zero, suc, min, _+_, _-_, _*_, _/_, _%_, _^_, _<_, _≤_}
-use native.Mathlib.Nat.{div-div-eq-div-mul, pow-suc, pow-succ', div-one, mod-eq-of-lt, eq-or-lt-of-le, add-zero, add-suc, add-assoc, zero-div, div-eq-of-lt, le-of-eq, le-trans, lt-of-lt-of-le, mod-lt, pow-le-pow-right}
-use native.Mathlib.Numerals.{add-one}
+use native.Mathlib.Nat.{div-div-eq-div-mul, pow-suc, pow-succ', div-one, add-zero, zero-div, div-eq-of-lt, le-of-eq, le-trans, lt-of-lt-of-le, mod-lt, pow-le-pow-right}
 use native.Mathlib.Omega.{arith}
 use lib.Count.{trailingZeros, under, trailing-le}
-use lib.Pow.{shr-shr, shr-le, pow-mono, field, mod-mod-pow}
-use lib.ListN.{length, getD, replicate, set, length-set, length-replicate, List·getD-eq-default}
+use lib.Pow.{shr-shr, shr-le, field, mod-mod-pow}
+use lib.ListN.{length, getD, replicate, set, length-set, List·getD-eq-default}
 use lib.Seq.{getD-set-same, getD-set-other}
 use borrow.Author.Tests.{ne-eqb}
 use Rattle.numbers.proofs.Cases.{le-or-lt, same-or-not, pos-of-not-zero}
@@ -19,12 +17,12 @@ use Rattle.field.proofs.Totals.{total-same}
 use Rattle.lanes.specs.Lanes.{lane}
 use Rattle.lanes.proofs.Laws.{lane-lt, lane-zero, lane-suc, lane-after, lane-pack, pack-lanes}
 use Rattle.polynomial.specs.Sums.{weight, nonzero}
-use Rattle.polynomial.specs.Polynomial.{polyAt, over}
+use Rattle.polynomial.specs.Polynomial.{polyAt}
 use Rattle.planes.specs.Roots.{RootsOf}
 use Rattle.planes.proofs.Theorems.{set-root, clear-other}
 use Rattle.code.proofs.Distances.{weight-le}
 use Rattle.mender.specs.declared.Pattern.{Pattern}
-use Rattle.mender.specs.Inside.{Small, valueOf, ValuedFrom}
+use Rattle.mender.specs.Inside.{valueOf}
 use Rattle.mender.specs.Found.{RootFrom, Patterned}
 use Rattle.mender.specs.Rows.{Coefficients}
 use Rattle.mender.specs.Values.{rootAfter, rootAt, upper, lower, upperOf, lowerOf, quotientAt, BothIn, QuotientsAhead, QuotientNext, Placed, Kills}

@@ -1,9 +1,8 @@
 -- What the code of packed rows does, a turn of each loop at a time, over plain variables.
 use mathlib.Core.Path.{_≡_, refl, sym, ap, ap₂, _∙_, subst}
-use mathlib.Core.Logic.{_⊎_, ⊎-elim}
 use mathlib.Core.List.{List, [], _∷_}
 use Prim.Native.Nat.{ℕ, zero, suc, _+_, _-_, _*_, _/_, _%_, _^_, _<_, _≤_}
-use native.Mathlib.Nat.{div-div-eq-div-mul, div-one, pow-suc, pow-le-pow-right, zero-add, add-zero, mod-eq-of-lt, mul-zero, mul-one, mul-le-mul-left}
+use native.Mathlib.Nat.{div-div-eq-div-mul, div-one, pow-suc, pow-le-pow-right, zero-add}
 use native.Mathlib.Numerals.{add-one}
 use native.Mathlib.Omega.{arith}
 use borrow.Author.Count.{below-more}
@@ -11,16 +10,15 @@ use lib.Dec.{eqb, eqb→eq}
 use lib.Bits.{bitXor}
 use lib.ListN.{getD, length, set, length-set, replicate}
 use lib.Seq.{getD-set-same, getD-set-other}
-use Rattle.numbers.proofs.Cases.{same-or-not, pos-of-not-zero}
+use Rattle.numbers.proofs.Cases.{pos-of-not-zero}
 use Rattle.numbers.proofs.Range.{each-at}
 use Rattle.numbers.proofs.Xor.{xor-assoc}
-use Rattle.field.specs.Field.{sum, timesX, shifted, product, α, power}
+use Rattle.field.specs.Field.{sum, timesX, shifted, product}
 use Rattle.field.specs.Inside.{inverse}
 use Rattle.field.proofs.Laws
-use Rattle.places.specs.Logs.{LogOf}
 use Rattle.lanes.specs.Lanes.{pack, lane}
 use Rattle.lanes.proofs.Laws.{lane-after, lane-lt, lane-zero, lane-suc, pack-same, pack-lt, lane-pack, pack-lanes, pack-all, xor-pack}
-use Rattle.mender.specs.Rows.{SumsIn, UnitRows, PivotRow, Multiples, factor, RowsCleared, FirstRow, Coefficients}
+use Rattle.mender.specs.Rows.{UnitRows, PivotRow, Multiples, factor, RowsCleared, FirstRow, Coefficients}
 use Rattle.mender.proofs.Rows.{pack-none}
 
 -- ---- lane_of

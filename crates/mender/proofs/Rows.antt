@@ -4,7 +4,7 @@ use mathlib.Core.Logic.{_⊎_, ⊎-elim}
 use mathlib.Core.Bool.{cond}
 use mathlib.Core.List.{List, [], _∷_}
 use Prim.Native.Nat.{ℕ, zero, suc, _+_, _-_, _*_, _/_, _^_, _<_, _≤_}
-use native.Mathlib.Nat.{div-div-eq-div-mul, div-one, pow-suc, pow-succ', zero-add, suc-add, eq-or-lt-of-le}
+use native.Mathlib.Nat.{pow-suc, eq-or-lt-of-le}
 use native.Mathlib.Numerals.{add-one}
 use native.Mathlib.Omega.{arith}
 use borrow.Author.Tests.{eq-eqb, ne-eqb, lt-ltb, le-ltb}
@@ -18,8 +18,8 @@ use Rattle.field.specs.Inside.{inverse}
 use Rattle.field.proofs.Laws
 use Rattle.field.proofs.Totals.{total-only}
 use Rattle.lanes.specs.Lanes.{pack, lane}
-use Rattle.lanes.proofs.Laws.{lane-after, lane-suc, pack-same, lane-pack, pack-more, pack-lanes, pack-all, xor-pack}
-use Rattle.mender.specs.Inside.{mixed, coef, at, Units, Spanned, Stepped}
+use Rattle.lanes.proofs.Laws.{lane-after, pack-same, lane-pack, pack-more, pack-lanes, xor-pack}
+use Rattle.mender.specs.Inside.{mixed, at, Units, Stepped}
 use Rattle.mender.specs.Rows.{woven, SumsIn, UnitRows, PivotRow, factor, RowsCleared, RowsHold, RowsFrom, FirstRow, Coefficients}
 use Rattle.mender.proofs.Windows.{past, mixed-lt, mixed-none, mixed-added, spanned-units, spanned-step, spanned-skip}
 use Rattle.mender.proofs.Fitting.{Least, row-least}
@@ -406,26 +406,3 @@ module _ (s : List ℕ) (e n : ℕ) (x : List ℕ) (a : RowsHold s e n x) where
       same =
           ext-getD 0 p (getD (a .rows) r []) (c .wide ∙ sym (a .spanned .wide r h))
           (λ k l. c .entry k (omega (arith, c .wide)) ∙ word-coef s e n x a r k h (omega (arith, c .wide)))
-
--- a row's number without the lanes of its windows
-pub coefficients-packed : (w : ℕ) (p : List ℕ) → w < 18446744073709551616 → Coefficients w p → w / 1073741824 ≡ pack 6 (coef p)
-coefficients-packed w p h c =
-    pack-all 6 (w / 1073741824) (omega arith)
-    ∙ pack-same 6 (lane (w / 64 ^ 5)) (coef p) (λ k l. lane-after w 5 k ∙ sym (c .entry k l))
-
--- ---- the two ways in which the rows end
-
--- no row is left
-pub record NoneLeft (s : List ℕ) (e n : ℕ) : Type 0 where
-  pub rows : List (List ℕ)
-  pub spanned : Spanned s e n rows
-  pub none : (i k : ℕ) → i < 6 → at rows i k ≡ 0
-
-pub none-left : (q e n r : ℕ) (x s : List ℕ) → RowsFrom q e n x → SumsIn q s → FirstRow x r → 6 ≤ r → NoneLeft s e n
-none-left q e n r x s a g f h =
-    let same : r ≡ 6 = let l = f .small in omega arith in
-    let held : RowsHold s e n x = a .hold s g in
-    record { rows = held .rows; spanned = held .spanned; none = rows-none s e n x held (subst (FirstRow x) same f) }
-
-pub least-left : (q e n r : ℕ) (x s p : List ℕ) → RowsFrom q e n x → SumsIn q s → FirstRow x r → r < 6 → Coefficients (getD x r 0) p → Least s e n r p
-least-left q e n r x s p a g f h c = rows-first s e n x (a .hold s g) r p h f c

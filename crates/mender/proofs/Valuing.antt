@@ -1,6 +1,5 @@
 -- What the code of values in lanes does, a turn of each loop at a time, over plain variables.
 use mathlib.Core.Path.{_≡_, refl, sym, ap, ap₂, _∙_, subst}
-use mathlib.Core.Bool.{cond}
 use mathlib.Core.Logic.{_⊎_, ⊎-elim}
 use mathlib.Core.List.{List}
 use Prim.Native.Nat.{ℕ, zero, suc, min, _+_, _-_, _*_, _/_, _%_, _^_, _<_, _≤_}
@@ -9,7 +8,6 @@ use native.Mathlib.Numerals.{add-one}
 use native.Mathlib.Omega.{arith}
 use borrow.Author.Count.{below-more}
 use borrow.Author.Tests.{eq-eqb, ne-eqb}
-use lib.Dec.{eqb}
 use lib.Bits.{bitXor}
 use lib.ListN.{getD}
 use Rattle.numbers.proofs.Cases.{le-or-lt, same-or-not}
@@ -18,7 +16,7 @@ use Rattle.field.specs.Inside.{inverse}
 use Rattle.field.proofs.Laws
 use Rattle.field.proofs.Totals.{total-same, total-front}
 use Rattle.lanes.specs.Lanes.{pack, lane}
-use Rattle.lanes.proofs.Laws.{lane-lt, lane-zero, lane-suc, lane-after, lane-xor, lane-pack, pack-equal, pack-lanes, pack-all, times-pack}
+use Rattle.lanes.proofs.Laws.{lane-lt, lane-zero, lane-suc, lane-after, lane-xor, lane-pack, pack-equal, pack-lanes, pack-all}
 use Rattle.mender.specs.declared.Ahead.{Ahead}
 use Rattle.mender.specs.Found.{RootFrom}
 use Rattle.mender.proofs.RowTurns.{pow-lane}

@@ -1,24 +1,17 @@
 // Mending: from power sums to the errors that have them, and the nearest word with given sums.
 ghost use mathlib.Core.Path.{_≡_};
-ghost use mathlib.Core.List.{List, []};
-ghost use Prim.Native.Nat.{ℕ, suc, min, _+_, _-_, _/_, _%_, _<_, _≤_};
+ghost use Prim.Native.Nat.{suc, min, _/_, _<_, _≤_};
 ghost use lib.ListN.{length, getD};
 ghost use Rattle.refusal.specs.Promise.{Tells};
-ghost use Rattle.field.specs.Field.{product, power};
-ghost use Rattle.field.specs.Inside.{inverse};
 ghost use Rattle.lanes.specs.Lanes.{lane};
-ghost use Rattle.polynomial.specs.Sums.{weight};
-ghost use Rattle.polynomial.specs.Polynomial.{over};
 ghost use Rattle.code.specs.Word.{added};
 ghost use Rattle.mender.specs.Mender.{MendsTo, Mends, NearestWith, NearestClean};
 ghost use mathlib.Core.Bool.{true, false};
 ghost use Rattle.code.specs.Held.{eleven};
 ghost use Rattle.mender.specs.Found.{lone, OneError, RootFrom, Patterned, ElementsTo, Clear, Repairs, sixth};
-
-ghost use Rattle.mender.specs.Rows.{SumsIn, UnitRows, PivotRow, Multiples, RowsCleared, RowsFrom, FirstRow, Coefficients};
+ghost use Rattle.mender.specs.Rows.{UnitRows, PivotRow, Multiples, RowsCleared, RowsFrom, FirstRow, Coefficients};
 ghost use Rattle.mender.specs.Inside.{Agree, Nothing};
 ghost use Rattle.mender.specs.Values.{Placed, PlacesFrom, QuotientsIn, QuotientsAhead, QuotientNext, BothAt, Spread, InversesIn, Raised, UpperIn, LowerIn, BothIn, Kills};
-
 use code::Eleven;
 
 // A word that was found, and how many of its characters are not 0, or how far it lies.
@@ -239,7 +232,11 @@ fn values_at_roots(row: u64, p: [u8; 6], s: [u8; 11], n: usize) -> Pattern
     requires { ⌜ Kills p s n ⌝ }
     ensures { λ r. ⌜ Patterned p s r ⌝ }
 {
-    placed(planes::roots(p), both_polynomials(row / FIVE_LANES % SIX_LANES, s, n), n)
+    placed(
+        planes::roots(p),
+        both_polynomials(row / FIVE_LANES % SIX_LANES, s, n),
+        n,
+    )
 }
 
 // A value at each root, and at no other place.
@@ -413,19 +410,6 @@ fn agree(s: [u8; 11], t: [u8; 11], c: usize) -> bool
         k += 1;
     }
     true
-}
-
-// Two lists of sums added.
-pub fn sums_added(u: [u8; 11], v: [u8; 11]) -> [u8; 11]
-    ensures { λ r. ⌜ r ≡ added u v ⌝ }
-{
-    let mut r = u;
-    let mut k: usize = 0;
-    while k < 11 {
-        r[k] = r[k] ^ v[k];
-        k += 1;
-    }
-    r
 }
 
 // A word and a pattern of errors added.

@@ -17,6 +17,7 @@ use Rattle.polynomial.specs.Polynomial.{polyAt}
 use Rattle.planes.specs.declared.Planes.{Planes}
 use Rattle.planes.specs.Roots.{RootsOf}
 use Rattle.planes.specs.Slices.{bitAt, ofBits, elementAt, Spread, Everywhere, Doubled, Added, OnlyAt, NextBit, PlaceMultiplied, ZerosOf}
+use Rattle.planes.specs.Crossed.{Crossed}
 use Rattle.planes.proofs.Bits.{xor-bit, and-bit, or-between, Between, low-bit, of-same, of-xor, of-lt, of-scaled, of-timesX}
 
 pub element-lt : (v : Planes) (l : ℕ) → elementAt v l < 64
@@ -147,28 +148,44 @@ one-bit-more n u h y s r q e =
     e ∙ Laws.sum-comm (timesX s) (y % 2 * u)
     ∙ ap₂ (λ (x t : ℕ). sum (x * u) t) low (ap timesX q ∙ sym (shifted-doubled n u h) ∙ ap (shifted n (timesX u)) up)
 
+-- the product with six words, as planes
+bits-multiplied : (a b c d e f : ℕ) (v s5 s4 s3 s2 s1 r : Planes) → OnlyAt f v s5 → NextBit s5 v e s4 → NextBit s4 v d s3
+    → NextBit s3 v c s2 → NextBit s2 v b s1 → NextBit s1 v a r
+    → (l : ℕ) → elementAt r l ≡ product (elementAt v l) (ofBits (bitAt a l) (bitAt b l) (bitAt c l) (bitAt d l) (bitAt e l) (bitAt f l))
+unfolding product
+bits-multiplied a b c d e f v s5 s4 s3 s2 s1 r h5 h4 h3 h2 h1 h0 l =
+    let u : ℕ = elementAt v l in
+    let p5 = first-bit u (f / 2 ^ l) (elementAt s5 l) (h5 .at l) in
+    let p4 = one-bit-more 1 u (bitAt f l) (e / 2 ^ l) (elementAt s5 l) (elementAt s4 l) p5 (h4 .at l) in
+    let p3 = one-bit-more 2 u _ (d / 2 ^ l) (elementAt s4 l) (elementAt s3 l) p4 (h3 .at l) in
+    let p2 = one-bit-more 3 u _ (c / 2 ^ l) (elementAt s3 l) (elementAt s2 l) p3 (h2 .at l) in
+    let p1 = one-bit-more 4 u _ (b / 2 ^ l) (elementAt s2 l) (elementAt s1 l) p2 (h1 .at l) in
+    let p0 = one-bit-more 5 u _ (a / 2 ^ l) (elementAt s1 l) (elementAt r l) p1 (h0 .at l) in
+    p0 ∙ ap (λ (x : ℕ). shifted 6 x (ofBits (bitAt a l) (bitAt b l) (bitAt c l) (bitAt d l) (bitAt e l) (bitAt f l))) (sym (mod-eq-of-lt (element-lt v l)))
+
 -- six words hold the powers of α, as planes
 abbrev pub arePlaces : ℕ → ℕ → ℕ → ℕ → ℕ → ℕ → Bool
 arePlaces a b c d e f = each 63 (λ l. eqb (ofBits (bitAt a l) (bitAt b l) (bitAt c l) (bitAt d l) (bitAt e l) (bitAt f l)) (power α l))
 
 pub place-planes : (a b c d e f : ℕ) → T (arePlaces a b c d e f) → (v s5 s4 s3 s2 s1 r : Planes) → OnlyAt f v s5 → NextBit s5 v e s4 → NextBit s4 v d s3
     → NextBit s3 v c s2 → NextBit s2 v b s1 → NextBit s1 v a r → PlaceMultiplied v r
-unfolding product
 place-planes a b c d e f t v s5 s4 s3 s2 s1 r h5 h4 h3 h2 h1 h0 =
     record {
       at = λ l h.
-          let u : ℕ = elementAt v l in
-          let is : ofBits (bitAt a l) (bitAt b l) (bitAt c l) (bitAt d l) (bitAt e l) (bitAt f l) ≡ power α l =
-          eqb→eq _ _ (each-at 63 (λ k. eqb (ofBits (bitAt a k) (bitAt b k) (bitAt c k) (bitAt d k) (bitAt e k) (bitAt f k)) (power α k)) t l h)
-          in
-          let p5 = first-bit u (f / 2 ^ l) (elementAt s5 l) (h5 .at l) in
-          let p4 = one-bit-more 1 u (bitAt f l) (e / 2 ^ l) (elementAt s5 l) (elementAt s4 l) p5 (h4 .at l) in
-          let p3 = one-bit-more 2 u _ (d / 2 ^ l) (elementAt s4 l) (elementAt s3 l) p4 (h3 .at l) in
-          let p2 = one-bit-more 3 u _ (c / 2 ^ l) (elementAt s3 l) (elementAt s2 l) p3 (h2 .at l) in
-          let p1 = one-bit-more 4 u _ (b / 2 ^ l) (elementAt s2 l) (elementAt s1 l) p2 (h1 .at l) in
-          let p0 = one-bit-more 5 u _ (a / 2 ^ l) (elementAt s1 l) (elementAt r l) p1 (h0 .at l) in
-          p0 ∙ ap₂ (shifted 6) (sym (mod-eq-of-lt (element-lt v l))) is;
+          bits-multiplied a b c d e f v s5 s4 s3 s2 s1 r h5 h4 h3 h2 h1 h0 l
+          ∙ ap (product (elementAt v l))
+          (eqb→eq _ _ (each-at 63 (λ k. eqb (ofBits (bitAt a k) (bitAt b k) (bitAt c k) (bitAt d k) (bitAt e k) (bitAt f k)) (power α k)) t l h));
     }
+
+pub multiplied : (v w s5 s4 s3 s2 s1 r : Planes) → OnlyAt (w .b5) v s5 → NextBit s5 v (w .b4) s4 → NextBit s4 v (w .b3) s3
+    → NextBit s3 v (w .b2) s2 → NextBit s2 v (w .b1) s1 → NextBit s1 v (w .b0) r → (l : ℕ) → elementAt r l ≡ product (elementAt v l) (elementAt w l)
+unfolding elementAt
+multiplied v w s5 s4 s3 s2 s1 r h5 h4 h3 h2 h1 h0 l =
+    bits-multiplied (w .b0) (w .b1) (w .b2) (w .b3) (w .b4) (w .b5) v s5 s4 s3 s2 s1 r h5 h4 h3 h2 h1 h0 l
+
+pub crossed-planes : (a x b y s t r : Planes) → ((l : ℕ) → elementAt s l ≡ product (elementAt a l) (elementAt x l))
+    → ((l : ℕ) → elementAt t l ≡ product (elementAt b l) (elementAt y l)) → Added s t r → Crossed a x b y r
+crossed-planes a x b y s t r p q h = record { at = λ l. h .at l ∙ ap₂ sum (p l) (q l) }
 
 -- ---- the places whose element is 0
 

@@ -1,6 +1,7 @@
-// The roots of a polynomial among the 63 powers of α, all at once: 64 elements at a time, a word of 64 bits for each of their six bits.
+// 64 elements at a time, a word of 64 bits for each of their six bits: their sums and products, and the roots of a polynomial among the 63 powers of α, all at once.
 ghost use Rattle.planes.specs.Roots.{RootsOf};
 ghost use Rattle.planes.specs.Slices.{Spread, Everywhere, Doubled, Added, OnlyAt, NextBit, PlaceMultiplied, ZerosOf};
+ghost use Rattle.planes.specs.Crossed.{Crossed};
 
 // Bit l of each is one bit of the l-th power of α, the lowest bit first.
 const PLACE_0: u64 = 9032456453195372609;
@@ -16,13 +17,13 @@ const PLACE_4: u64 = 4563957122512537104;
 const PLACE_5: u64 = 9127914245025074208;
 
 // Elements at 64 places: bit l of plane t is bit t of the element at l.
-struct Planes {
-    b0: u64,
-    b1: u64,
-    b2: u64,
-    b3: u64,
-    b4: u64,
-    b5: u64,
+pub struct Planes {
+    pub b0: u64,
+    pub b1: u64,
+    pub b2: u64,
+    pub b3: u64,
+    pub b4: u64,
+    pub b5: u64,
 }
 
 // The roots of a polynomial, its lowest coefficient first, among the powers of α: bit l is set where the l-th power is one. Of each coefficient the low six bits count.
@@ -48,7 +49,7 @@ fn spread(c: u8) -> u64
 }
 
 // The element c at each of 63 places.
-fn everywhere(c: u8) -> Planes
+pub fn everywhere(c: u8) -> Planes
     ensures { λ r. ⌜ Everywhere c r ⌝ }
 {
     Planes {
@@ -76,7 +77,7 @@ fn times_x(v: Planes) -> Planes
 }
 
 // The sums, place by place.
-fn plus(s: Planes, v: Planes) -> Planes
+pub fn plus(s: Planes, v: Planes) -> Planes
     ensures { λ r. ⌜ Added s v r ⌝ }
 {
     Planes {
@@ -122,8 +123,27 @@ fn times_place(v: Planes) -> Planes
     next_bit(s1, v, PLACE_0)
 }
 
+// The product of a and x and that of b and y added, place by place: both by shift and add, from the highest bit down.
+pub fn crossed(a: Planes, x: Planes, b: Planes, y: Planes) -> Planes
+    ensures { λ r. ⌜ Crossed a x b y r ⌝ }
+{
+    let s5 = only_at(a, x.b5);
+    let s4 = next_bit(s5, a, x.b4);
+    let s3 = next_bit(s4, a, x.b3);
+    let s2 = next_bit(s3, a, x.b2);
+    let s1 = next_bit(s2, a, x.b1);
+    let s0 = next_bit(s1, a, x.b0);
+    let t5 = only_at(b, y.b5);
+    let t4 = next_bit(t5, b, y.b4);
+    let t3 = next_bit(t4, b, y.b3);
+    let t2 = next_bit(t3, b, y.b2);
+    let t1 = next_bit(t2, b, y.b1);
+    let t0 = next_bit(t1, b, y.b0);
+    plus(s0, t0)
+}
+
 // The places below 63 whose element is 0.
-fn zeros(v: Planes) -> u64
+pub fn zeros(v: Planes) -> u64
     ensures { λ r. ⌜ ZerosOf v r ⌝ }
 {
     let some = v.b0 | v.b1 | v.b2 | v.b3 | v.b4 | v.b5;

@@ -4,6 +4,7 @@ pub mod Marks
 pub mod Alone
 pub mod Those
 pub mod Starts
+pub mod Filtering
 pub mod Turns
 pub mod Ways
 pub mod Theorems

@@ -61,11 +61,6 @@ those-all {P} (not-listed {k = k} p s) j e =
     ⊎-elim (λ (q : k ≡ j). absurd (p (subst P (sym q) (e .has))))
     (λ (l : k < j). those-all s j (record { least = l; most = omega arith; has = e .has })) (eq-or-lt-of-le (e .least))
 
-pub those-long : {P : ℕ → Type 0} {n k : ℕ} {ks : List ℕ} → Those P n k ks → length ks ≤ n
-those-long end = omega arith
-those-long (listed p s) = let r = those-long s in omega arith
-those-long (not-listed p s) = let r = those-long s in omega arith
-
 -- ---- none has the property, one has it, all have it
 
 module _ (P : ℕ → Type 0) where

@@ -29,6 +29,8 @@ use Rattle.mender.specs.Mender.{Mends, Word}
 use Rattle.ring.specs.Ring.{placed, Start, Those, end, listed, not-listed, ListOf}
 use Rattle.ring.specs.Promises.{Lists}
 use Rattle.ring.specs.Inside.{MarkSums, TurnedBack, Listable, Mendable, placeOf}
+use Rattle.ring.specs.declared.Undecided.{Undecided}
+use Rattle.ring.specs.Filter.{NoErrorsAt, Decides}
 use Rattle.ring.proofs.Placing.{kept, placed-forward, placed-backward}
 use Rattle.ring.proofs.Marks.{first-marks}
 use Rattle.ring.proofs.Starts.{start-told}
@@ -199,6 +201,12 @@ module _ (ring : List ℕ) (t : ℕ) (old out sums here : List ℕ) (n k : ℕ) 
         output = rw en (eo ∙ s .output);
         whole = λ more r. s .whole more (moved {n = suc (126 - (k + 1))} (omega arith) refl (not-listed (told .fails e) (moved refl (add-one k) r)));
       }
+
+-- where the filter has a 0 at this start, no errors have its sums
+pub no-errors-here : (ring : List ℕ) (t : ℕ) (old out sums here : List ℕ) (n k : ℕ) (u : Undecided) (d : List ℕ) → Decides sums u
+    → ListedTo ring t old out sums here n k → k < 126 → d ≡ added sums here → NoErrorsAt u k d
+no-errors-here ring t old out sums here n k u d f s h e =
+    subst (NoErrorsAt u k) (sym e) (f .decided k here h (s .mark-sums))
 
 pub listed-all : (ring : List ℕ) (t : ℕ) (old out sums here : List ℕ) (n k : ℕ) → ListedTo ring t old out sums here n k → 126 ≤ k → Lists ring t old (n ∷ []) out
 listed-all ring t old out sums here n k s h =

@@ -2,3 +2,4 @@
 pub mod Ring
 pub mod Promises
 pub mod Inside
+pub mod Filter

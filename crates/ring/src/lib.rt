@@ -10,6 +10,7 @@ ghost use Rattle.code.specs.Held.{eleven};
 ghost use Rattle.ring.specs.Ring.{placed};
 ghost use Rattle.ring.specs.Promises.{listingNumbers, readingNumbers, Lists, ListsRing, ReadsRing};
 ghost use Rattle.ring.specs.Inside.{MarkSums, TurnedBack, Listable, Mendable, placeOf};
+ghost use Rattle.ring.specs.Filter.{MarksIn, MayList, NoErrorsAt, Decides};
 use code::Eleven;
 use refusal::Refusal;
 
@@ -30,6 +31,12 @@ pub enum RingReading {
         distance: u8,
     },
     Refused(Refusal),
+}
+
+// The starts that may be listed, the forward ones and the backward ones: a bit for each.
+struct Undecided {
+    forward: u64,
+    backward: u64,
 }
 
 // Lists a ring: writes the starts at which a line lies within the radius, in rising order.
@@ -91,17 +98,18 @@ pub fn read_ring(ring: &[u8], radius: u8, output: &mut [u8]) -> RingReading
 
 // Writes the listed starts first, leaves the rest of the output, and gives their count. The marks are turned, and not the ring: a start is
 // listed where the ring, with the marks added at that start's places, is within the radius of a clean word. So the ring's power sums are
-// taken once, and to them are added, for each start, those of the marks.
+// taken once, and to them are added, for each start, those of the marks. Nine in ten of the starts that are not listed are told at once.
 fn list_starts(ring: &[u8], radius: u8, output: &mut [u8]) -> u8
     requires { ⌜ Listable (now ring) radius (length (now output)) ⌝ }
     ensures { λ r. ⌜ Lists (now (ring .entry)) radius (now (output .entry)) (r ∷ []) (now (output .exit)) ⌝ }
 {
     let sums = code::eleven_sums(ring);
+    let undecided = undecided_starts(sums);
     let mut marks = forward_marks();
     let mut count: u8 = 0;
     let mut start: u8 = 0;
     while start < 126 {
-        let listed = mendable(code::eleven_added(sums, marks), radius);
+        let listed = listable(undecided, start, code::eleven_added(sums, marks), radius);
         let after = next_marks(marks, start);
         marks = after;
         if listed {
@@ -119,6 +127,84 @@ fn no_starts() -> [u8; 126]
     ensures { λ r. ⌜ length r ≡ 126 ⌝ }
 {
     [0u8; 126]
+}
+
+// The starts that may be listed, from the ring's power sums.
+fn undecided_starts(sums: Eleven) -> Undecided
+    ensures { λ r. ⌜ Decides (eleven sums) r ⌝ }
+{
+    let entries = code::unpacked(sums);
+    Undecided {
+        forward: regular::undecided(entries, forward_words()),
+        backward: regular::undecided(entries, backward_words()),
+    }
+}
+
+// The power sums of the marks at the 63 forward starts: six words for each sum, the lowest bit first, and in each word a bit for each start.
+fn forward_words() -> [u64; 66]
+    ensures { λ r. ⌜ MarksIn 0 r ⌝ }
+{
+    [
+        3448105183620422855, 6335738610237599331, 4331223605867731282, 2456243684590253563, 8294925524986908422, 5373851783091153029,
+        4088321817563262674, 1996392463740444587, 2044160908781631337, 5873854634227480764, 2281978561256268552, 3992784927480889174,
+        4000838848202269045, 1044488165926346673, 950910885688462484, 6612105442528522426, 2088976331852693346, 1901821771376924968,
+        7284644942280299403, 6228146719507746942, 8738690263211156706, 3232921402160718077, 8254008489567537605, 6465842804321436154,
+        285247320157033569, 297144354906619043, 594288709813238086, 1188577419626476172, 2377154839252952344, 4754309678505904688,
+        9223372036854775807, 0, 0, 9223372036854775807, 0, 9223372036854775807,
+        3699672485741520055, 7709055101471332076, 3854527550735666038, 1927263775367833019, 5575317906111304413, 7399344971483040110,
+        3992071363380892105, 3553136858398817800, 6744913416668792613, 1776568429199408900, 7984142726761784210, 888284214599704450,
+        8325149773493232183, 1588166138781860499, 8887646996343477712, 7426927510131688559, 5405769087818318153, 4443823498171738856,
+        5575317906111304413, 302109817004832126, 1927263775367833019, 1359412807735529287, 2856288069164663857, 151054908502416063,
+        2687814138633972766, 5375628277267945532, 6894504912590891077, 6985739226675329230, 2384371717155047763, 7150317159821106165,
+    ]
+}
+
+// And at the 63 backward starts.
+fn backward_words() -> [u64; 66]
+    ensures { λ r. ⌜ MarksIn 63 r ⌝ }
+{
+    [
+        2165611802933865641, 5694491919894320724, 7531589948788645246, 6685417399674115009, 3649305954986482209, 7779555323546187569,
+        7985569854961778348, 2281978561256268552, 3992784927480889174, 4088321817563262674, 2524337231600185721, 4563957122512537104,
+        8868097670279775347, 3625513778022224922, 4821910542877768375, 9045734853567275577, 7251027556044449844, 420449048900760943,
+        2657953413764831675, 297144354906619043, 7582017381082289774, 594288709813238086, 5940662725309803741, 1188577419626476172,
+        4272163309282785971, 5609882250297610197, 1996392463740444587, 3992784927480889174, 7985569854961778348, 6747767673068780889,
+        9223372036854775807, 0, 0, 9223372036854775807, 0, 9223372036854775807,
+        2416878536038657008, 3553136858398817800, 1776568429199408900, 888284214599704450, 444142107299852225, 4833757072077314016,
+        8390869881576261161, 6882090288858455450, 5893363415740717223, 3441045144429227725, 7558367726297746515, 6332208590642001766,
+        3144054998827722875, 2557606003256909724, 742161906546152236, 6288109997655445750, 1278803001628454862, 371080953273076118,
+        1359412807735529287, 3854527550735666038, 2718825615471058574, 5712576138329327714, 302109817004832126, 1927263775367833019,
+        4093422299168970493, 8186844598337940986, 1343907069316986383, 4029469237361416721, 6358120825096220211, 7513621956929843796,
+    ]
+}
+
+// Whether a start may be listed.
+fn is_undecided(undecided: Undecided, start: usize) -> bool
+    requires { ⌜ start < 126 ⌝ }
+    ensures { λ r. ⌜ MayList undecided start r ⌝ }
+{
+    if start < 63 {
+        if (undecided.forward >> start) % 2 == 0 {
+            return false;
+        }
+        return true;
+    }
+    if (undecided.backward >> (start - 63)) % 2 == 0 {
+        return false;
+    }
+    true
+}
+
+// Whether some errors, as many as the radius at most, have the power sums of a start.
+fn listable(undecided: Undecided, start: u8, sums: Eleven, radius: u8) -> bool
+    requires { ⌜ start < 126 ⌝ }
+    requires { ⌜ NoErrorsAt undecided start (eleven sums) ⌝ }
+    ensures { λ r. ⌜ Tells (Mendable (eleven sums) radius) r ⌝ }
+{
+    if !is_undecided(undecided, start as usize) {
+        return false;
+    }
+    mendable(sums, radius)
 }
 
 // Whether some errors, as many as the radius at most, have these power sums: the radius counts up to 5.

@@ -1,4 +1,4 @@
--- The character at an address: past the end a list has 0.
+-- `code::character` meets its contract: past the end a list has 0.
 use borrow.Author.Needs.{needs}
 use Rattle.code.proofs.Turns.{past-end}
 use Rattle.code.proofs.character.Statement.{statement}

@@ -1,4 +1,4 @@
--- A line has 63 characters in range and the sums of the marks, and what has them is a line.
+-- `code::is_line` meets its contract: a line has 63 characters in range and the sums of the marks, and what has them is a line.
 use borrow.Author.Needs.{needs}
 use borrow.Author.Tests.{not-true, not-false}
 use Rattle.code.proofs.Turns.{wrong-length, wrong-characters, line-by-sums}

@@ -1,4 +1,4 @@
--- The eleven numbers are compared with what Horner's rule gives at the marks.
+-- `code::mark_sums` meets its contract: the eleven numbers are compared with what Horner's rule gives at the marks.
 use Rattle.field.specs.Field.{sum, timesX, shifted, product, power}
 use Rattle.code.specs.Word.{marks, listed}
 use Rattle.code.proofs.Horner.{horner, horner-sums}

@@ -1,4 +1,4 @@
--- The loop keeps that the sums passed are equal.
+-- `code::same` meets its contract: the loop keeps that the sums passed are equal.
 use Prim.Native.Nat.{_-_}
 use borrow.Author.Needs.{needs}
 use Rattle.code.proofs.Turns.{SameTo, same-none, same-again, same-all, same-not}

@@ -20,9 +20,6 @@ array-write-s c = search (unpacked-long, needs)
 loop-again : tie.Need-loop-again Inv-loop μ-loop
 loop-again c = search (unpacked-again, needs)
 
-array-write-s-2 : tie.Need-array-write-s-2 Inv-loop μ-loop
-array-write-s-2 c = search needs
-
 returns : tie.Need-returns Inv-loop μ-loop
 returns c = search (unpacked-all, needs)
 
@@ -38,5 +35,5 @@ unpacked-spec =
     (λ c. search needs)
     (λ c. search needs)
     loop-again
-    array-write-s-2
+    (λ c. search needs)
     returns)

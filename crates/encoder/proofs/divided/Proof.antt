@@ -1,4 +1,4 @@
--- A step of the division: the loop fills the places one by one, each with the one after it and its multiple of the generator taken away.
+-- A step of the division: the loop fills the places one by one, each with the one after it and its multiple of the generator, a lane, taken away.
 use borrow.Author.Needs.{needs}
 use Prim.Native.Nat.{_-_}
 use Rattle.encoder.proofs.Turns.{DividedTo, divided-none, divided-again, divided-all}
@@ -6,10 +6,10 @@ use Rattle.encoder.proofs.divided.Statement.{statement}
 use Rattle.encoder.proofs.divided.Tie as tie
 
 abbrev Inv-loop : tie.InvT-loop
-Inv-loop c held feedback left₀ i₀ left i = DividedTo held c feedback left i
+Inv-loop c held feedback rest₀ left₀ i₀ rest left i = DividedTo held c feedback rest left i
 
 abbrev μ-loop : tie.MeasureT-loop
-μ-loop c held feedback left₀ i₀ left i = 10 - i
+μ-loop c held feedback rest₀ left₀ i₀ rest left i = 10 - i
 
 loop-holds : tie.Need-loop-holds Inv-loop μ-loop
 loop-holds c = search (divided-none, needs)
@@ -27,16 +27,14 @@ divided-spec =
     Inv-loop
     μ-loop
     (λ c. search needs)
+    (λ c κs. search needs)
     loop-holds
     (λ c. search needs)
     (λ c. search needs)
     (λ c. search needs)
-    (λ c κs. search needs)
     (λ c. search needs)
     (λ c. search needs)
     (λ c. search needs)
     loop-again
-    (λ c. search needs)
-    (λ c κs. search needs)
     (λ c. search needs)
     returns)

@@ -4,12 +4,6 @@ use Rattle.mender.proofs.Valuing.{both-mul, both-fit, both-are}
 use Rattle.mender.proofs.both_polynomials.Statement.{statement}
 use Rattle.mender.proofs.both_polynomials.Tie as tie
 
-upper-polynomial-requires : tie.Need-upper-polynomial-requires
-upper-polynomial-requires c κs = search needs
-
-lower-polynomial-requires : tie.Need-lower-polynomial-requires
-lower-polynomial-requires c κs = search needs
-
 mul-result : tie.Need-mul-result
 mul-result c = search (both-mul, needs)
 
@@ -22,4 +16,4 @@ returns c = search (both-are, needs)
 pub both-polynomials-spec : {M : Type 1} → statement M
 both-polynomials-spec =
     tie.close
-    (tie.spec upper-polynomial-requires lower-polynomial-requires mul-result add-result returns)
+    (tie.spec (λ c κs. search needs) (λ c κs. search needs) mul-result add-result returns)

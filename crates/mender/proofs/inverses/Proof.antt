@@ -14,26 +14,11 @@ abbrev μ-loop : tie.MeasureT-loop
 loop-holds : tie.Need-loop-holds Inv-loop μ-loop
 loop-holds c = search (inverses-none, needs)
 
-cast-inverse : tie.Need-cast-inverse Inv-loop μ-loop
-cast-inverse c = search needs
-
-inverse-requires : tie.Need-inverse-requires Inv-loop μ-loop
-inverse-requires c κs = search needs
-
-cast-r : tie.Need-cast-r Inv-loop μ-loop
-cast-r c = search needs
-
 mul-r : tie.Need-mul-r Inv-loop μ-loop
 mul-r c = search (inverse-fits, needs)
 
 add-r : tie.Need-add-r Inv-loop μ-loop
 add-r c = search (inverses-fit, needs)
-
-add-i : tie.Need-add-i Inv-loop μ-loop
-add-i c = search needs
-
-loop-less : tie.Need-loop-less Inv-loop μ-loop
-loop-less c = search needs
 
 loop-again : tie.Need-loop-again Inv-loop μ-loop
 loop-again c = search (inverses-again, needs)
@@ -48,12 +33,12 @@ inverses-spec =
     Inv-loop
     μ-loop
     loop-holds
-    cast-inverse
-    inverse-requires
-    cast-r
+    (λ c. search needs)
+    (λ c κs. search needs)
+    (λ c. search needs)
     mul-r
     add-r
-    add-i
-    loop-less
+    (λ c. search needs)
+    (λ c. search needs)
     loop-again
     returns)

@@ -7,9 +7,6 @@ use Rattle.mender.proofs.looked_ahead.Tie as tie
 returns : tie.Need-returns
 returns c = search (ahead-same, needs)
 
-places-from-requires : tie.Need-places-from-requires
-places-from-requires c κs = search needs
-
 quotients-requires : tie.Need-quotients-requires
 quotients-requires c κs = search (places-small, needs)
 
@@ -17,4 +14,4 @@ returns-2 : tie.Need-returns-2
 returns-2 c = search (ahead-new, needs)
 
 pub looked-ahead-spec : {M : Type 1} → statement M
-looked-ahead-spec = tie.close (tie.spec returns places-from-requires quotients-requires returns-2)
+looked-ahead-spec = tie.close (tie.spec returns (λ c κs. search needs) quotients-requires returns-2)

@@ -6,23 +6,8 @@ use Rattle.mender.proofs.Finding.{mended-bounds}
 use Rattle.mender.proofs.mend.Statement.{statement}
 use Rattle.mender.proofs.mend.Tie as tie
 
-least-requires : tie.Need-least-requires
-least-requires c κs = search needs
-
-least-requires-2 : tie.Need-least-requires-2
-least-requires-2 c κs = search needs
-
-elements-to-requires : tie.Need-elements-to-requires
-elements-to-requires c κs = search needs
-
-nothing-requires : tie.Need-nothing-requires
-nothing-requires c κs = search needs
-
 returns : tie.Need-returns
 returns c = search (mend-refused, not-true, needs)
-
-packed-requires : tie.Need-packed-requires
-packed-requires c κs = search needs
 
 find-requires : tie.Need-find-requires
 find-requires c κs = search (mended-bounds, needs)
@@ -34,11 +19,11 @@ pub mend-spec : {M : Type 1} → statement M
 mend-spec =
     tie.close
     (tie.spec
-    least-requires
-    least-requires-2
-    elements-to-requires
-    nothing-requires
+    (λ c κs. search needs)
+    (λ c κs. search needs)
+    (λ c κs. search needs)
+    (λ c κs. search needs)
     returns
-    packed-requires
+    (λ c κs. search needs)
     find-requires
     returns-2)

@@ -12,38 +12,14 @@ Inv-loop roots f n w₀ count₀ values₀ left₀ l₀ w count values left l = 
 abbrev μ-loop : tie.MeasureT-loop
 μ-loop roots f n w₀ count₀ values₀ left₀ l₀ w count values left l = 63 - l
 
-root-from-requires : tie.Need-root-from-requires Inv-loop μ-loop
-root-from-requires c κs = search needs
-
 loop-holds : tie.Need-loop-holds Inv-loop μ-loop
 loop-holds c = search (placed-none, needs)
-
-looked-ahead-requires : tie.Need-looked-ahead-requires Inv-loop μ-loop
-looked-ahead-requires c κs = search needs
-
-cast-v : tie.Need-cast-v Inv-loop μ-loop
-cast-v c = search needs
-
-sub-w : tie.Need-sub-w Inv-loop μ-loop
-sub-w c = search needs
 
 array-write-w : tie.Need-array-write-w Inv-loop μ-loop
 array-write-w c = search (placed-long, needs)
 
 add-count : tie.Need-add-count Inv-loop μ-loop
 add-count c = search (placed-room, needs)
-
-sub-left : tie.Need-sub-left Inv-loop μ-loop
-sub-left c = search needs
-
-add-root-from : tie.Need-add-root-from Inv-loop μ-loop
-add-root-from c = search needs
-
-root-from-requires-2 : tie.Need-root-from-requires-2 Inv-loop μ-loop
-root-from-requires-2 c κs = search needs
-
-loop-less : tie.Need-loop-less Inv-loop μ-loop
-loop-less c = search needs
 
 loop-again : tie.Need-loop-again Inv-loop μ-loop
 loop-again c = ⊎-elim (λ w. search (turn-some, needs)) (λ w. search (turn-none, needs)) (c .before .before .before .if1 .came)
@@ -57,16 +33,16 @@ placed-spec =
     (tie.spec
     Inv-loop
     μ-loop
-    root-from-requires
+    (λ c κs. search needs)
     loop-holds
-    looked-ahead-requires
-    cast-v
-    sub-w
+    (λ c κs. search needs)
+    (λ c. search needs)
+    (λ c. search needs)
     array-write-w
     add-count
-    sub-left
-    add-root-from
-    root-from-requires-2
-    loop-less
+    (λ c. search needs)
+    (λ c. search needs)
+    (λ c κs. search needs)
+    (λ c. search needs)
     loop-again
     returns)

@@ -14,35 +14,11 @@ abbrev μ-loop : tie.MeasureT-loop
 loop-holds : tie.Need-loop-holds Inv-loop μ-loop
 loop-holds c = search (places-none, needs)
 
-cast-power-of : tie.Need-cast-power-of Inv-loop μ-loop
-cast-power-of c = search needs
-
-power-of-requires : tie.Need-power-of-requires Inv-loop μ-loop
-power-of-requires c κs = search needs
-
-cast-x : tie.Need-cast-x Inv-loop μ-loop
-cast-x c = search needs
-
 mul-x : tie.Need-mul-x Inv-loop μ-loop
 mul-x c = search (place-fits, needs)
 
 add-x : tie.Need-add-x Inv-loop μ-loop
 add-x c = search (places-fit, needs)
-
-add-least : tie.Need-add-least Inv-loop μ-loop
-add-least c = search needs
-
-least-requires : tie.Need-least-requires Inv-loop μ-loop
-least-requires c κs = search needs
-
-root-from-requires : tie.Need-root-from-requires Inv-loop μ-loop
-root-from-requires c κs = search needs
-
-add-i : tie.Need-add-i Inv-loop μ-loop
-add-i c = search needs
-
-loop-less : tie.Need-loop-less Inv-loop μ-loop
-loop-less c = search needs
 
 loop-again : tie.Need-loop-again Inv-loop μ-loop
 loop-again c = search (places-again, needs)
@@ -57,15 +33,15 @@ places-from-spec =
     Inv-loop
     μ-loop
     loop-holds
-    cast-power-of
-    power-of-requires
-    cast-x
+    (λ c. search needs)
+    (λ c κs. search needs)
+    (λ c. search needs)
     mul-x
     add-x
-    add-least
-    least-requires
-    root-from-requires
-    add-i
-    loop-less
+    (λ c. search needs)
+    (λ c κs. search needs)
+    (λ c κs. search needs)
+    (λ c. search needs)
+    (λ c. search needs)
     loop-again
     returns)

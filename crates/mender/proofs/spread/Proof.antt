@@ -4,18 +4,6 @@ use Rattle.mender.proofs.Valuing.{spread-is, spread-fits}
 use Rattle.mender.proofs.spread.Statement.{statement}
 use Rattle.mender.proofs.spread.Tie as tie
 
-mul-q : tie.Need-mul-q
-mul-q c = search needs
-
-shr-q : tie.Need-shr-q
-shr-q c = search needs
-
-mul-result : tie.Need-mul-result
-mul-result c = search needs
-
-add-result : tie.Need-add-result
-add-result c = search needs
-
 mul-result-2 : tie.Need-mul-result-2
 mul-result-2 c = search (spread-fits, needs)
 
@@ -23,4 +11,4 @@ returns : tie.Need-returns
 returns c = search (spread-is, needs)
 
 pub spread-spec : {M : Type 1} → statement M
-spread-spec = tie.close (tie.spec mul-q shr-q mul-result add-result mul-result-2 returns)
+spread-spec = tie.close (tie.spec (λ c. search needs) (λ c. search needs) (λ c. search needs) (λ c. search needs) mul-result-2 returns)

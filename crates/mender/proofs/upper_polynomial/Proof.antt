@@ -14,21 +14,6 @@ abbrev μ-loop : tie.MeasureT-loop
 loop-holds : tie.Need-loop-holds Inv-loop μ-loop
 loop-holds c = search (upper-none, needs)
 
-sub-k : tie.Need-sub-k Inv-loop μ-loop
-sub-k c = search needs
-
-add-scale : tie.Need-add-scale Inv-loop μ-loop
-add-scale c = search needs
-
-array-read-scale : tie.Need-array-read-scale Inv-loop μ-loop
-array-read-scale c = search needs
-
-scale-requires : tie.Need-scale-requires Inv-loop μ-loop
-scale-requires c κs = search needs
-
-loop-less : tie.Need-loop-less Inv-loop μ-loop
-loop-less c = search needs
-
 loop-again : tie.Need-loop-again Inv-loop μ-loop
 loop-again c = search (upper-again, needs)
 
@@ -42,10 +27,10 @@ upper-polynomial-spec =
     Inv-loop
     μ-loop
     loop-holds
-    sub-k
-    add-scale
-    array-read-scale
-    scale-requires
-    loop-less
+    (λ c. search needs)
+    (λ c. search needs)
+    (λ c. search needs)
+    (λ c κs. search needs)
+    (λ c. search needs)
     loop-again
     returns)

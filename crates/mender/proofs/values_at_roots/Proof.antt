@@ -4,18 +4,9 @@ use Rattle.mender.proofs.Rooting.{values-placed}
 use Rattle.mender.proofs.values_at_roots.Statement.{statement}
 use Rattle.mender.proofs.values_at_roots.Tie as tie
 
-roots-requires : tie.Need-roots-requires
-roots-requires c κs = search needs
-
-both-polynomials-requires : tie.Need-both-polynomials-requires
-both-polynomials-requires c κs = search needs
-
-placed-requires : tie.Need-placed-requires
-placed-requires c κs = search needs
-
 returns : tie.Need-returns
 returns c = search (values-placed, needs)
 
 pub values-at-roots-spec : {M : Type 1} → statement M
 values-at-roots-spec =
-    tie.close (tie.spec roots-requires both-polynomials-requires placed-requires returns)
+    tie.close (tie.spec (λ c κs. search needs) (λ c κs. search needs) (λ c κs. search needs) returns)

@@ -4,14 +4,8 @@ use Rattle.code.proofs.Holding.{sums-held}
 use Rattle.ring.proofs.backward_marks.Statement.{statement}
 use Rattle.ring.proofs.backward_marks.Tie as tie
 
-backward-sums-requires : tie.Need-backward-sums-requires
-backward-sums-requires c κs = search needs
-
-packed-requires : tie.Need-packed-requires
-packed-requires c κs = search needs
-
 returns : tie.Need-returns
 returns c = search (sums-held, needs)
 
 pub backward-marks-spec : {M : Type 1} → statement M
-backward-marks-spec = tie.close (tie.spec backward-sums-requires packed-requires returns)
+backward-marks-spec = tie.close (tie.spec (λ c κs. search needs) (λ c κs. search needs) returns)

@@ -1,4 +1,4 @@
--- The eleven numbers are compared with what Horner's rule gives at the marks read backward from place 0.
+-- `ring::backward_sums` meets its contract: the eleven numbers are compared with what Horner's rule gives at the marks read backward from place 0.
 use Rattle.field.specs.Field.{sum, timesX, shifted, product, power}
 use Rattle.code.specs.Word.{marks, listed, reversed}
 use Rattle.code.proofs.Horner.{horner, horner-sums}

@@ -4,14 +4,8 @@ use Rattle.code.proofs.Holding.{sums-held}
 use Rattle.ring.proofs.forward_marks.Statement.{statement}
 use Rattle.ring.proofs.forward_marks.Tie as tie
 
-mark-sums-requires : tie.Need-mark-sums-requires
-mark-sums-requires c κs = search needs
-
-packed-requires : tie.Need-packed-requires
-packed-requires c κs = search needs
-
 returns : tie.Need-returns
 returns c = search (sums-held, needs)
 
 pub forward-marks-spec : {M : Type 1} → statement M
-forward-marks-spec = tie.close (tie.spec mark-sums-requires packed-requires returns)
+forward-marks-spec = tie.close (tie.spec (λ c κs. search needs) (λ c κs. search needs) returns)

@@ -1,4 +1,4 @@
--- Each return is one way in which listing ends.
+-- `ring::list_ring` meets its contract: each return is one way in which listing ends.
 use borrow.Author.Needs.{needs}
 use borrow.Author.Tests.{not-true, not-false}
 use Rattle.ring.proofs.Ways.{list-other-length, list-other-room, list-out-of-range, list-radius-over, listable, the-list}

@@ -1,21 +1,26 @@
--- The loop keeps that the starts below this one are listed, so that whatever lists the rest completes the list, and that the marks' sums are those of this start.
+-- `ring::list_starts` meets its contract: the loop keeps that the starts below this one are listed, so that whatever lists the rest completes the list, and that the marks' sums are those of this start.
 use native.Mathlib.Omega.{arith}
 use borrow.Author.Needs.{needs}
 use mathlib.Core.Logic.{⊎-elim}
 use Prim.Native.Nat.{_-_, _<_}
 use Rattle.code.specs.Held.{eleven}
-use Rattle.ring.proofs.Turns.{ListedTo, listed-none, listed-one, listed-not, listed-all}
+use Rattle.ring.specs.Filter.{Decides}
+use Rattle.ring.proofs.Turns.{ListedTo, no-errors-here, listed-none, listed-one, listed-not, listed-all}
 use Rattle.ring.proofs.list_starts.Statement.{statement}
 use Rattle.ring.proofs.list_starts.Tie as tie
 
 abbrev Inv-loop : tie.InvT-loop
-Inv-loop ring radius output₀ sums marks₀ count₀ start₀ output marks count start = ListedTo ring radius output₀ output (eleven sums) (eleven marks) count start
+Inv-loop ring radius output₀ sums undecided marks₀ count₀ start₀ output marks count start =
+    Decides (eleven sums) undecided × ListedTo ring radius output₀ output (eleven sums) (eleven marks) count start
 
 abbrev μ-loop : tie.MeasureT-loop
-μ-loop ring radius output₀ sums marks₀ count₀ start₀ output marks count start = 126 - start
+μ-loop ring radius output₀ sums undecided marks₀ count₀ start₀ output marks count start = 126 - start
 
 loop-holds : tie.Need-loop-holds Inv-loop μ-loop
 loop-holds c = search (listed-none, needs)
+
+listable-requires : tie.Need-listable-requires Inv-loop μ-loop
+listable-requires c κs = search (no-errors-here, needs)
 
 loop-again : tie.Need-loop-again Inv-loop μ-loop
 loop-again c =
@@ -33,9 +38,10 @@ list-starts-spec =
     μ-loop
     (λ c κs. search needs)
     (λ c κs. search needs)
+    (λ c κs. search needs)
     loop-holds
     (λ c κs. search needs)
-    (λ c κs. search needs)
+    listable-requires
     (λ c κs. search needs)
     (λ c. search needs)
     (λ c. search needs)

@@ -1,4 +1,4 @@
--- What the mender finds, or not, is told as it is.
+-- `ring::mendable` meets its contract: what the mender finds, or not, is told as it is.
 use borrow.Author.Needs.{needs}
 use Rattle.ring.proofs.Turns.{mend-told}
 use Rattle.ring.proofs.mendable.Statement.{statement}

@@ -1,4 +1,4 @@
--- The marks at the next start are those at this one turned back by one character; the first backward start has its own.
+-- `ring::next_marks` meets its contract: the marks at the next start are those at this one turned back by one character; the first backward start has its own.
 use borrow.Author.Needs.{needs}
 use Rattle.ring.proofs.Marks.{backward-begins, next-sums}
 use Rattle.ring.proofs.next_marks.Statement.{statement}

@@ -1,4 +1,4 @@
--- Each return is one of the two directions.
+-- `ring::place_of` meets its contract: each return is one of the two directions.
 use native.Mathlib.Omega.{arith}
 use borrow.Author.Needs.{needs}
 use Rattle.ring.proofs.Turns.{place-forward, place-backward}

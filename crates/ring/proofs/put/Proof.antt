@@ -1,4 +1,4 @@
--- A copy over an output of the same length leaves nothing of it.
+-- `ring::put` meets its contract: a copy over an output of the same length leaves nothing of it.
 use borrow.Author.Needs.{needs}
 use Rattle.line.proofs.Reading.{put-whole}
 use Rattle.ring.proofs.put.Statement.{statement}

@@ -1,4 +1,4 @@
--- Each return is one way in which reading ends.
+-- `ring::read_ring` meets its contract: each return is one way in which reading ends.
 use native.Mathlib.Omega.{arith}
 use Prim.Native.Nat.{_<_}
 use borrow.Author.Needs.{needs}

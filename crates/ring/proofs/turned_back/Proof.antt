@@ -4,14 +4,8 @@ use Rattle.ring.proofs.Turns.{turned-sums}
 use Rattle.ring.proofs.turned_back.Statement.{statement}
 use Rattle.ring.proofs.turned_back.Tie as tie
 
-products-requires : tie.Need-products-requires
-products-requires c κs = search needs
-
-times-requires : tie.Need-times-requires
-times-requires c κs = search needs
-
 returns : tie.Need-returns
 returns c = search (turned-sums, needs)
 
 pub turned-back-spec : {M : Type 1} → statement M
-turned-back-spec = tie.close (tie.spec products-requires times-requires returns)
+turned-back-spec = tie.close (tie.spec (λ c κs. search needs) (λ c κs. search needs) returns)

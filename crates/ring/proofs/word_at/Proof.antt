@@ -1,4 +1,4 @@
--- The loop keeps that the first a characters are those of the word at the start.
+-- `ring::word_at` meets its contract: the loop keeps that the first a characters are those of the word at the start.
 use borrow.Author.Needs.{needs}
 use mathlib.Core.Path.{_≡_}
 use Prim.Native.Nat.{_<_, _-_}

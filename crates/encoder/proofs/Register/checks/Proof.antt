@@ -24,7 +24,6 @@ checks-spec =
     (tie.spec
     returns
     returns-2
-    (λ c. search needs)
     (λ c κs. search needs)
     returns-3
     (λ c κs. search needs)

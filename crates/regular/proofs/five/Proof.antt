@@ -1,0 +1,59 @@
+-- `regular::five` meets its contract: one step of the elimination, and what is told of the rest.
+use borrow.Author.Needs.{needs}
+use mathlib.Core.Path.{sym, ap₂, _∙_}
+use Rattle.field.specs.Field.{sum, product}
+use Rattle.planes.proofs.Bits.{or-between}
+use Rattle.regular.specs.Pivots.{reduced, Pivots}
+use Rattle.regular.proofs.Turns.{left-none, right-none}
+use Rattle.regular.proofs.five.Statement.{statement}
+use Rattle.regular.proofs.five.Tie as tie
+
+returns : tie.Need-returns
+unfolding Pivots
+returns c =
+    let k0 = c .before in
+    let k1 = k0 .before in
+    let k2 = k1 .before in
+    let k3 = k2 .before in
+    let k4 = k3 .before in
+    let k5 = k4 .before in
+    let k6 = k5 .before in
+    let k7 = k6 .before in
+    let k8 = k7 .before in
+    let k9 = k8 .before in
+    let k10 = k9 .before in
+    record {
+      pivots = λ l b z m h. (
+        (λ e. c .zeros .ensures .other l b (left-none (or-between (c .zeros .result) (k0 .four .result) l) z) (sym (h .0) ∙ e)),
+        k0 .four .ensures .pivots l b (right-none (or-between (c .zeros .result) (k0 .four .result) l) z) (reduced m) (
+          ap₂ sum (ap₂ product (h .0) (h .5)) (ap₂ product (h .1) (h .1)) ∙ sym (k10 .crossed .ensures .at l),
+          ap₂ sum (ap₂ product (h .0) (h .6)) (ap₂ product (h .1) (h .2)) ∙ sym (k9 .crossed2 .ensures .at l),
+          ap₂ sum (ap₂ product (h .0) (h .7)) (ap₂ product (h .1) (h .3)) ∙ sym (k8 .crossed3 .ensures .at l),
+          ap₂ sum (ap₂ product (h .0) (h .8)) (ap₂ product (h .1) (h .4)) ∙ sym (k7 .crossed4 .ensures .at l),
+          ap₂ sum (ap₂ product (h .0) (h .9)) (ap₂ product (h .2) (h .2)) ∙ sym (k6 .crossed5 .ensures .at l),
+          ap₂ sum (ap₂ product (h .0) (h .10)) (ap₂ product (h .2) (h .3)) ∙ sym (k5 .crossed6 .ensures .at l),
+          ap₂ sum (ap₂ product (h .0) (h .11)) (ap₂ product (h .2) (h .4)) ∙ sym (k4 .crossed7 .ensures .at l),
+          ap₂ sum (ap₂ product (h .0) (h .12)) (ap₂ product (h .3) (h .3)) ∙ sym (k3 .crossed8 .ensures .at l),
+          ap₂ sum (ap₂ product (h .0) (h .13)) (ap₂ product (h .3) (h .4)) ∙ sym (k2 .crossed9 .ensures .at l),
+          ap₂ sum (ap₂ product (h .0) (h .14)) (ap₂ product (h .4) (h .4)) ∙ sym (k1 .crossed10 .ensures .at l),
+        ),
+      );
+    }
+
+pub five-spec : {M : Type 1} → statement M
+five-spec =
+    tie.close
+    (tie.spec
+    (λ c κs. search needs)
+    (λ c κs. search needs)
+    (λ c κs. search needs)
+    (λ c κs. search needs)
+    (λ c κs. search needs)
+    (λ c κs. search needs)
+    (λ c κs. search needs)
+    (λ c κs. search needs)
+    (λ c κs. search needs)
+    (λ c κs. search needs)
+    (λ c κs. search needs)
+    (λ c κs. search needs)
+    returns)

@@ -1,0 +1,38 @@
+-- `regular::three` meets its contract: one step of the elimination, and what is told of the rest.
+use borrow.Author.Needs.{needs}
+use mathlib.Core.Path.{sym, ap₂, _∙_}
+use Rattle.field.specs.Field.{sum, product}
+use Rattle.planes.proofs.Bits.{or-between}
+use Rattle.regular.specs.Pivots.{reduced, Pivots}
+use Rattle.regular.proofs.Turns.{left-none, right-none}
+use Rattle.regular.proofs.three.Statement.{statement}
+use Rattle.regular.proofs.three.Tie as tie
+
+returns : tie.Need-returns
+unfolding Pivots
+returns c =
+    let k0 = c .before in
+    let k1 = k0 .before in
+    let k2 = k1 .before in
+    let k3 = k2 .before in
+    record {
+      pivots = λ l b z m h. (
+        (λ e. c .zeros .ensures .other l b (left-none (or-between (c .zeros .result) (k0 .two .result) l) z) (sym (h .0) ∙ e)),
+        k0 .two .ensures .pivots l b (right-none (or-between (c .zeros .result) (k0 .two .result) l) z) (reduced m) (
+          ap₂ sum (ap₂ product (h .0) (h .3)) (ap₂ product (h .1) (h .1)) ∙ sym (k3 .crossed .ensures .at l),
+          ap₂ sum (ap₂ product (h .0) (h .4)) (ap₂ product (h .1) (h .2)) ∙ sym (k2 .crossed2 .ensures .at l),
+          ap₂ sum (ap₂ product (h .0) (h .5)) (ap₂ product (h .2) (h .2)) ∙ sym (k1 .crossed3 .ensures .at l),
+        ),
+      );
+    }
+
+pub three-spec : {M : Type 1} → statement M
+three-spec =
+    tie.close
+    (tie.spec
+    (λ c κs. search needs)
+    (λ c κs. search needs)
+    (λ c κs. search needs)
+    (λ c κs. search needs)
+    (λ c κs. search needs)
+    returns)

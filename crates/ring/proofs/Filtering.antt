@@ -1,0 +1,150 @@
+-- The filter in front of listing: the words hold the marks' power sums at each start, and where the filter has a 0 the start is not listed.
+use mathlib.Core.Path.{_≡_, refl, sym, ap, ap₂, _∙_, subst}
+use mathlib.Core.Bool.{Bool, true, false, cond}
+use mathlib.Core.Logic.{⊎-elim}
+use mathlib.Core.List.{List, [], _∷_}
+use Prim.Native.Nat.{ℕ, zero, suc, min, _+_, _-_, _*_, _/_, _%_, _^_, _<_, _≤_}
+use native.Mathlib.Nat.{mod-eq-of-lt, le-trans}
+use native.Mathlib.Numerals.{add-one}
+use native.Mathlib.Omega.{arith}
+use lib.Dec.{T, eqb, eqb→eq, ltb}
+use lib.ListN.{length, getD}
+use borrow.Author.Tests.{lt-ltb, le-ltb}
+use Rattle.numbers.proofs.Cases.{le-or-lt}
+use Rattle.numbers.proofs.Range.{each, each-at}
+use Rattle.refusal.specs.Promise.{Tells}
+use Rattle.refusal.proofs.Laws.{tells-no}
+use Rattle.field.specs.Field.{sum, timesX, shifted, product, α, power}
+use Rattle.field.proofs.Laws
+use Rattle.planes.specs.Slices.{bitAt}
+use Rattle.regular.specs.Pivots.{elementIn, sumIn}
+use Rattle.regular.specs.Promises.{NoErrorsWhere}
+use Rattle.code.specs.Word.{powerSum, added, listed}
+use Rattle.code.specs.Inside.{PowerSums}
+use Rattle.code.specs.declared.Eleven.{Eleven}
+use Rattle.code.specs.Held.{eleven}
+use Rattle.code.proofs.Holding.{eleven-long, eleven-characters}
+use Rattle.code.proofs.Words.{listed-long, listed-get, added-get}
+use Rattle.mender.specs.Mender.{Fits}
+use Rattle.mender.proofs.Finding.{true-false}
+use Rattle.ring.specs.declared.Undecided.{Undecided}
+use Rattle.ring.specs.Inside.{marksAt, MarkSums, TurnedBack, Mendable}
+use Rattle.ring.specs.Filter.{MarksIn, undecidedAt, MayList, NoErrorsAt, Decides}
+use Rattle.ring.proofs.Marks.{next-sums}
+
+-- ---- the words
+
+-- the powers of α that turn the eleven sums back by one character
+unfoldable pub backs : List ℕ
+backs = 32 ∷ 16 ∷ 8 ∷ 4 ∷ 2 ∷ 1 ∷ 33 ∷ 49 ∷ 57 ∷ 61 ∷ 63 ∷ []
+
+backs-test : T (each 11 (λ k. eqb (getD backs k 0) (power α ((58 + k) * 62 % 63))))
+unfolding backs power product shifted timesX sum
+backs-test = tt
+
+back : (k : ℕ) → k < 11 → getD backs k 0 ≡ power α ((58 + k) * 62)
+back k h =
+    eqb→eq (getD backs k 0) (power α ((58 + k) * 62 % 63)) (each-at 11 (λ k. eqb (getD backs k 0) (power α ((58 + k) * 62 % 63))) backs-test k h)
+    ∙ Laws.power-mod ((58 + k) * 62)
+
+-- the sums at start l, and that each is that of the start before it, turned back
+unfoldable pub sumsIn : List ℕ → ℕ → List ℕ
+sumsIn words l = listed (λ k. elementIn words k l) 0 11
+
+unfoldable pub turnedIn : List ℕ → Bool
+turnedIn words = each 62 (λ l. each 11 (λ k. eqb (elementIn words k (suc l)) (product (elementIn words k l) (getD backs k 0))))
+
+turned-in : (words : List ℕ) → T (turnedIn words) → (l : ℕ) → l < 62 → TurnedBack (sumsIn words l) (sumsIn words (suc l))
+unfolding turnedIn sumsIn
+turned-in words t l h =
+    record {
+      long = listed-long (λ k. elementIn words k (suc l)) 0 11;
+      entry = λ k g.
+          listed-get (λ k. elementIn words k (suc l)) 11 k g
+          ∙ eqb→eq (elementIn words k (suc l)) (product (elementIn words k l) (getD backs k 0))
+          (each-at 11 (λ k. eqb (elementIn words k (suc l)) (product (elementIn words k l) (getD backs k 0)))
+          (each-at 62 (λ l. each 11 (λ k. eqb (elementIn words k (suc l)) (product (elementIn words k l) (getD backs k 0)))) t l h) k g)
+          ∙ ap₂ product (sym (listed-get (λ k. elementIn words k l) 11 k g)) (back k g);
+    }
+
+module _ (first : ℕ) (words : List ℕ) (t : T (turnedIn words)) (apart : (l : ℕ) → l < 62 → first + l ≡ 62 → ⊥) (begins : MarkSums first (sumsIn words 0)) where
+  sums-in : (l : ℕ) → l < 63 → MarkSums (first + l) (sumsIn words l)
+  sums-in zero h = subst (λ (k : ℕ). MarkSums k (sumsIn words 0)) (omega arith) begins
+  sums-in (suc l) h =
+      subst (λ (k : ℕ). MarkSums k (sumsIn words (suc l))) (omega arith)
+      (next-sums (first + l) (sumsIn words l) (sumsIn words (suc l)) (apart l (omega arith)) (sums-in l (omega arith)) (turned-in words t l (omega arith)))
+
+  pub marks-in : MarksIn first words
+  unfolding sumsIn
+  marks-in = record { at = λ l k h g. sym (listed-get (λ k. elementIn words k l) 11 k g) ∙ sums-in l h .sum-at k g }
+
+-- ---- the masks
+
+module _ (sums here words : List ℕ) (first l : ℕ) (w : List ℕ) (long : length sums ≡ 11) (small : (k : ℕ) → getD sums k 0 < 64) (h : l < 63) (ms : MarksIn first words)
+    (mark : MarkSums (first + l) here) (fits : Fits (added sums here) 11 5 w) where
+  -- the sums of a start are those that the filter has at its place
+  pub fits-there : Fits (listed (sumIn sums words l) 0 11) 11 5 w
+  unfolding sumIn
+  fits-there =
+      record {
+        long = fits .long;
+        characters = fits .characters;
+        light = fits .light;
+        sums = λ k g.
+            listed-get (λ k. sum (getD sums k 0 % 64) (elementIn words k l)) 11 k g
+            ∙ ap₂ sum (mod-eq-of-lt (small k)) (ms .at l k h g ∙ sym (mark .sum-at k g))
+            ∙ sym (added-get sums here (long ∙ sym (mark .long)) k) ∙ fits .sums k g;
+      }
+
+pub undecided-forward : (u : Undecided) (k : ℕ) → k < 63 → bitAt (u .forward) k ≡ undecidedAt u k
+unfolding undecidedAt
+undecided-forward u k h = ap (λ (b : Bool). cond b (bitAt (u .forward) k) (bitAt (u .backward) (k - 63))) (sym (lt-ltb k 63 h))
+
+pub undecided-backward : (u : Undecided) (k : ℕ) → 63 ≤ k → bitAt (u .backward) (k - 63) ≡ undecidedAt u k
+unfolding undecidedAt
+undecided-backward u k h = ap (λ (b : Bool). cond b (bitAt (u .forward) k) (bitAt (u .backward) (k - 63))) (sym (le-ltb k 63 h))
+
+module _ (h : Eleven) (entries fw bw : List ℕ) (u : Undecided) (is : entries ≡ eleven h) (fm : MarksIn 0 fw) (bm : MarksIn 63 bw)
+    (fn : NoErrorsWhere entries fw (u .forward)) (bn : NoErrorsWhere entries bw (u .backward)) where
+  small : (k : ℕ) → getD entries k 0 < 64
+  small k = subst (λ (s : List ℕ). getD s k 0 < 64) (sym is) (eleven-characters h k)
+
+  long : length entries ≡ 11
+  long = ap length is ∙ eleven-long h
+
+  pub decides : Decides (eleven h) u
+  decides =
+      subst (λ (s : List ℕ). Decides s u) is
+      (record {
+        decided = λ k here b mark.
+            record {
+              none = λ z w fits.
+                  ⊎-elim
+                  (λ (g : 63 ≤ k).
+                  bn .none (k - 63) (omega arith) (undecided-backward u k g ∙ z) w
+                  (fits-there entries here bw 63 (k - 63) w long small (omega arith) bm (subst (λ (n : ℕ). MarkSums n here) (omega arith) mark) fits))
+                  (λ (g : k < 63).
+                  fn .none k g (undecided-forward u k g ∙ z) w
+                  (fits-there entries here fw 0 k w long small g fm (subst (λ (n : ℕ). MarkSums n here) (omega arith) mark) fits))
+                  (le-or-lt 63 k);
+            };
+      })
+
+-- ---- told by the filter
+
+pub told-not : (u : Undecided) (k : ℕ) (s : List ℕ) (t : ℕ) (b : Bool) → NoErrorsAt u k s → MayList u k b → b ≡ false → Tells (Mendable s t) false
+told-not u k s t b n m e =
+    tells-no
+    (λ x.
+    n .none (m .not e) (x .0)
+    (let f = x .1 in record { long = f .long; characters = f .characters; light = le-trans (f .light) (omega arith); sums = f .sums }))
+
+-- a bit that is 0
+pub forward-none : (u : Undecided) (k : ℕ) → k < 63 → u .forward / 2 ^ k % 2 ≡ 0 → MayList u k false
+forward-none u k h z = record { not = λ e. sym (undecided-forward u k h) ∙ z }
+
+pub backward-none : (u : Undecided) (k : ℕ) → 63 ≤ k → u .backward / 2 ^ (k - 63) % 2 ≡ 0 → MayList u k false
+backward-none u k h z = record { not = λ e. sym (undecided-backward u k h) ∙ z }
+
+pub may-list : (u : Undecided) (k : ℕ) → MayList u k true
+may-list u k = record { not = λ e. absurd (true-false e) }

@@ -10,3 +10,5 @@ pub mod Locating
 pub mod Theorems
 pub mod Rows
 pub mod RowTurns
+pub mod Fractions
+pub mod Valuing

@@ -23,6 +23,7 @@ use Rattle.mender.specs.Mender.{MendsTo}
 use Rattle.mender.specs.Inside.{mixed, coef, Small, Agree, Nothing}
 use Rattle.mender.specs.Rows.{SumsIn, RowsHold, RowsFrom, FirstRow, Coefficients}
 use Rattle.mender.specs.Found.{Patterned, sixth}
+use Rattle.mender.specs.Values.{Kills}
 use Rattle.mender.proofs.Fitting.{Least, some-row}
 use Rattle.mender.proofs.Finding.{Told, found-none, found-no-sixth, found-heavy, found-other, found-word}
 use Rattle.mender.proofs.Rows.{rows-none, rows-first}
@@ -79,6 +80,16 @@ module _ (h : Eleven) (c e : ℕ) (x : List ℕ) (r : ℕ) (out : Mended) (b : (
 
         pub this-word : y .weight ≤ e → a ≡ true → MendsTo (eleven h) c e (record { found = true; weight = y .weight; word = y .word })
         this-word g q = found-word (eleven h) c e (min (c - c / 2) 5) r p out told least (y .word) (here .valued) (y .weight) (here .weighs) t sums a same g q
+
+-- the coefficients of the first row combine the windows to 0
+pub locator-kills : (h : Eleven) (c e : ℕ) (x : List ℕ) (r : ℕ) (p s : List ℕ) (n : ℕ) → RowsFrom (h .first) e (min (c - c / 2) 5) x → FirstRow x r → r < 6
+    → Coefficients (getD x r 0) p → s ≡ eleven h → n ≡ min (c - c / 2) 5 → Kills p s n
+locator-kills h c e x r p s n rows f l k es en =
+    let a : Least (eleven h) e (min (c - c / 2) 5) r p = rows-first (eleven h) e (min (c - c / 2) 5) x (rows .hold (eleven h) (sums-in h)) r p l f k in
+    record {
+      few = omega arith;
+      window = λ j g. ap (λ (t : List ℕ). mixed (coef p) t j) es ∙ a .kernel j (omega arith);
+    }
 
 -- the row fails the sixth window
 pub not-sixth : (h : Eleven) (c e : ℕ) (x : List ℕ) (r : ℕ) (out : Mended) (a : Bool) → (c ≤ 11) × (e ≤ c / 2) → RowsFrom (h .first) e (min (c - c / 2) 5) x → FirstRow x r

@@ -1,28 +1,36 @@
 -- The values at the roots alone: from one set bit of the roots to the next, every place between has no value.
 use mathlib.Core.Path.{_≡_, refl, sym, ap, ap₂, _∙_, subst}
-use mathlib.Core.Bool.{true, false}
-use mathlib.Core.Logic.{_⊎_, inl, inr, ⊎-elim}
+use mathlib.Core.Logic.{_⊎_, ⊎-elim}
 use mathlib.Core.List.{List}
-use Prim.Native.Nat.{ℕ, zero, suc, _+_, _-_, _*_, _/_, _%_, _^_, _<_, _≤_}
-use native.Mathlib.Nat.{div-div-eq-div-mul, pow-suc, pow-succ', div-one, mod-eq-of-lt, eq-or-lt-of-le, add-zero, add-suc, add-assoc, zero-div, div-eq-of-lt, le-of-eq, le-trans, lt-of-lt-of-le, mod-lt}
-use native.Mathlib.Numerals.{add-one}
+use Prim.Native.Nat.{ℕ, zero, suc, min, _+_, _-_, _*_, _/_, _%_, _^_, _<_, _≤_}
+use native.Mathlib.Nat.{div-div-eq-div-mul, pow-suc, pow-succ', div-one, add-zero, zero-div, div-eq-of-lt, le-of-eq, le-trans, lt-of-lt-of-le, mod-lt, pow-le-pow-right}
 use native.Mathlib.Omega.{arith}
 use lib.Count.{trailingZeros, under, trailing-le}
-use lib.Pow.{shr-shr, shr-le, pow-mono, field, mod-mod-pow}
-use lib.ListN.{length, getD, replicate, set, length-set, length-replicate}
+use lib.Pow.{shr-shr, shr-le, field, mod-mod-pow}
+use lib.ListN.{length, getD, replicate, set, length-set, List·getD-eq-default}
 use lib.Seq.{getD-set-same, getD-set-other}
 use borrow.Author.Tests.{ne-eqb}
 use Rattle.numbers.proofs.Cases.{le-or-lt, same-or-not, pos-of-not-zero}
-use Rattle.field.specs.Field.{α, power}
+use Rattle.field.specs.Field.{product, α, power}
+use Rattle.field.specs.Inside.{inverse}
+use Rattle.field.proofs.Totals.{total-same}
+use Rattle.lanes.specs.Lanes.{lane}
+use Rattle.lanes.proofs.Laws.{lane-lt, lane-zero, lane-suc, lane-after, lane-pack, pack-lanes}
 use Rattle.polynomial.specs.Sums.{weight, nonzero}
-use Rattle.polynomial.specs.Polynomial.{polyAt, over}
+use Rattle.polynomial.specs.Polynomial.{polyAt}
 use Rattle.planes.specs.Roots.{RootsOf}
-use Rattle.planes.proofs.Theorems.{clear-other}
+use Rattle.planes.proofs.Theorems.{set-root, clear-other}
 use Rattle.code.proofs.Distances.{weight-le}
 use Rattle.mender.specs.declared.Pattern.{Pattern}
-use Rattle.mender.specs.Inside.{Small, valueOf, ValuedFrom}
+use Rattle.mender.specs.Inside.{valueOf}
 use Rattle.mender.specs.Found.{RootFrom, Patterned}
+use Rattle.mender.specs.Rows.{Coefficients}
+use Rattle.mender.specs.Values.{rootAfter, rootAt, upper, lower, upperOf, lowerOf, quotientAt, BothIn, QuotientsAhead, QuotientNext, Placed, Kills}
+use Rattle.mender.specs.declared.Ahead.{Ahead}
 use Rattle.mender.proofs.OneError.{zero-get, weight-set, weight-nothing, nonzero-pos}
+use Rattle.mender.proofs.Locating.{coefficients-small}
+use Rattle.mender.proofs.Fractions.{window-is, slope-is, value-is-quotient}
+use Rattle.mender.proofs.Valuing.{root-after}
 
 -- ---- the zeros below the lowest set bit
 
@@ -71,76 +79,84 @@ below-63 n l h =
     let e : 63 ≡ (62 - l) + 1 + l = omega arith in
     ap (λ (m : ℕ). n % 2 ^ m / 2 ^ l % 2) e ∙ ap (λ (m : ℕ). m % 2) (field n (62 - l + 1) l) ∙ mod-mod-pow (n / 2 ^ l) (62 - l) 1
 
-module _ (roots from rest : ℕ) (h : from ≤ 63) (e : rest ≡ roots % 9223372036854775808 / 2 ^ from) where
+-- the roots, and a bit after them
+module _ (roots from rest : ℕ) (h : from ≤ 63) (e : rest ≡ (roots % 9223372036854775808 + 9223372036854775808) / 2 ^ from) where
+  marked : ℕ
+  marked = roots % 9223372036854775808 + 9223372036854775808
+
+  whole : marked < 2 ^ 64
+  unfolding marked
+  whole = omega arith
+
+  at : (i : ℕ) → rest / 2 ^ i ≡ marked / 2 ^ (from + i)
+  unfolding marked
+  at i = ap (λ (m : ℕ). m / 2 ^ i) e ∙ shr-shr marked from i
+
   bit : (i : ℕ) → from + i < 63 → rest / 2 ^ i % 2 ≡ roots / 2 ^ (from + i) % 2
+  unfolding marked
   bit i l =
-      ap (λ (m : ℕ). m / 2 ^ i % 2) e ∙ ap (λ (m : ℕ). m % 2) (shr-shr (roots % 9223372036854775808) from i) ∙ below-63 roots (from + i) l
+      ap (λ (m : ℕ). m % 2) (at i) ∙ sym (below-63 marked (from + i) l)
+      ∙ ap (λ (m : ℕ). m / 2 ^ (from + i) % 2) (omega arith) ∙ below-63 roots (from + i) l
 
-  past : (i : ℕ) → 63 ≤ from + i → rest / 2 ^ i % 2 ≡ 0
-  past i g =
-      ap (λ (m : ℕ). m / 2 ^ i % 2) e
-      ∙ ap (λ (m : ℕ). m % 2)
-      (shr-shr (roots % 9223372036854775808) from i ∙ div-eq-of-lt (lt-of-lt-of-le (mod-lt roots (omega arith)) (pow-mono g)))
+  top : rest / 2 ^ (63 - from) % 2 ≡ 1
+  unfolding marked
+  top =
+      let k : from + (63 - from) ≡ 63 = omega arith in
+      ap (λ (m : ℕ). m % 2) (at (63 - from)) ∙ ap (λ (k : ℕ). marked / 2 ^ k % 2) k ∙ omega arith
 
-  pub no-more : rest ≡ 0 → RootFrom roots from 63
-  no-more z =
+  some : rest ≡ 0 → ⊥
+  some z = let t : 0 / 2 ^ (63 - from) % 2 ≡ 1 = subst (λ (n : ℕ). n / 2 ^ (63 - from) % 2 ≡ 1) z top in let n : 0 / 2 ^ (63 - from) ≡ 0 = zero-div (2 ^ (63 - from)) in omega arith
+
+  fits : rest < 2 ^ 64
+  unfolding marked
+  fits = let l : marked / 2 ^ from ≤ marked = shr-le marked from in let b = whole in omega arith
+
+  low : Lowest rest (trailingZeros 64 rest)
+  low = trailing-lowest 64 rest (pos-of-not-zero rest some) fits
+
+  pub inside : from + trailingZeros 64 rest ≤ 63
+  inside =
+      ⊎-elim (λ (g : from + trailingZeros 64 rest ≤ 63). g)
+      (λ (g : 63 < from + trailingZeros 64 rest).
+      absurd (let z : rest / 2 ^ (63 - from) % 2 ≡ 0 = low .below (63 - from) (omega arith) in let o = top in omega arith))
+      (le-or-lt (from + trailingZeros 64 rest) 63)
+
+  pub next-root : RootFrom roots from (from + trailingZeros 64 rest)
+  next-root =
+      let b = inside in
       record {
-        least = h;
-        most = omega arith;
-        none = λ l g b.
+        least = omega arith;
+        most = b;
+        none = λ l g c.
             let q : from + (l - from) ≡ l = omega arith in
-            ap (λ (m : ℕ). roots / 2 ^ m % 2) (sym q) ∙ sym (bit (l - from) (omega arith)) ∙ ap (λ (m : ℕ). m / 2 ^ (l - from) % 2) z
-            ∙ ap (λ (m : ℕ). m % 2) (zero-div (2 ^ (l - from)));
+            ap (λ (m : ℕ). roots / 2 ^ m % 2) (sym q) ∙ sym (bit (l - from) (omega arith)) ∙ low .below (l - from) (omega arith);
+        here = λ g. sym (bit (trailingZeros 64 rest) g) ∙ low .here;
       }
 
-  module _ (some : rest ≡ 0 → ⊥) where
-    whole : rest < 2 ^ 64
-    whole =
-        let l : roots % 9223372036854775808 / 2 ^ from ≤ roots % 9223372036854775808 = shr-le (roots % 9223372036854775808) from in
-        omega arith
+-- ---- the roots below l have their values, and no other place has one
 
-    low : Lowest rest (trailingZeros 64 rest)
-    low = trailing-lowest 64 rest (pos-of-not-zero rest some) whole
-
-    pub inside : from + trailingZeros 64 rest ≤ 62
-    inside =
-        ⊎-elim (λ (g : 63 ≤ from + trailingZeros 64 rest). absurd (let z = past (trailingZeros 64 rest) g in let o = low .here in omega arith))
-        (λ (g : from + trailingZeros 64 rest < 63). omega arith) (le-or-lt 63 (from + trailingZeros 64 rest))
-
-    pub next-root : RootFrom roots from (from + trailingZeros 64 rest)
-    next-root =
-        let b = inside in
-        record {
-          least = omega arith;
-          most = omega arith;
-          none = λ l g c.
-              let q : from + (l - from) ≡ l = omega arith in
-              ap (λ (m : ℕ). roots / 2 ^ m % 2) (sym q) ∙ sym (bit (l - from) (omega arith)) ∙ low .below (l - from) (omega arith);
-        }
-
--- ---- the places below l have their values, those from it on have none yet
-
-pub record RootedTo (p s : List ℕ) (roots : ℕ) (w : List ℕ) (n l : ℕ) : Type 0 where
-  pub is-roots : RootsOf p roots
+pub record PlacedTo (roots f n : ℕ) (w : List ℕ) (count values left l : ℕ) : Type 0 where
+  pub few : n ≤ 5
+  pub ahead : QuotientsAhead f n roots l (record { values = values; left = left })
   pub most : l ≤ 63
+  pub here : l < 63 → roots / 2 ^ l % 2 ≡ 1
   pub long : length w ≡ 63
-  pub done : (k : ℕ) → k < l → getD w (62 - k) 0 ≡ valueOf p s (power α k)
+  pub done : (k : ℕ) → k < l → roots / 2 ^ k % 2 ≡ 1 → getD w (62 - k) 0 ≡ quotientAt f n (power α k)
+  pub clear : (k : ℕ) → k < 63 → roots / 2 ^ k % 2 ≡ 0 → getD w (62 - k) 0 ≡ 0
   pub later : (k : ℕ) → l ≤ k → k < 63 → getD w (62 - k) 0 ≡ 0
-  pub weighs : n ≡ weight w
+  pub weighs : count ≡ weight w
 
--- where there is no root there is no value
-no-value : (p s : List ℕ) (r k : ℕ) → Small p → RootsOf p r → k < 63 → r / 2 ^ k % 2 ≡ 0 → 0 ≡ valueOf p s (power α k)
-unfolding valueOf
-no-value p s r k sm f h b = simp (ne-eqb (polyAt p (power α k)) 0 (clear-other p r (sm .small) f k h b))
-
-pub rooted-none : (p s : List ℕ) (r l : ℕ) → Small p → RootsOf p r → RootFrom r 0 l → RootedTo p s r (replicate 63 0) 0 l
-rooted-none p s r l sm f n =
+pub placed-none : (r f n l : ℕ) → n ≤ 5 → RootFrom r 0 l → PlacedTo r f n (replicate 63 0) 0 0 0 l
+placed-none r f n l h a =
     record {
-      is-roots = f;
-      most = n .most;
+      few = h;
+      ahead = record { few = omega arith; at = λ j g. absurd (omega arith) };
+      most = a .most;
+      here = a .here;
       long = refl;
-      done = λ k h. zero-get 63 (62 - k) ∙ no-value p s r k sm f (let m : l ≤ 63 = n .most in omega arith) (n .none k (omega arith) h);
-      later = λ k h b. zero-get 63 (62 - k);
+      done = λ k b o. absurd (let z : r / 2 ^ k % 2 ≡ 0 = a .none k (omega arith) b in omega arith);
+      clear = λ k b z. zero-get 63 (62 - k);
+      later = λ k b g. zero-get 63 (62 - k);
       weighs = sym (weight-nothing 63);
     }
 
@@ -148,10 +164,14 @@ nothing-counts : nonzero 0 ≡ 0
 unfolding nonzero
 nothing-counts = refl
 
-module _ (p s : List ℕ) (r : ℕ) (w : List ℕ) (n l x v l′ : ℕ) (sm : Small p) (h : l < 63) (a : RootedTo p s r w n l) (ex : x ≡ power α (l % 64))
-    (ev : v ≡ valueOf p s x) (next : RootFrom r (l + 1) l′) where
-  here : v ≡ valueOf p s (power α l)
-  here = ev ∙ ap (valueOf p s) (ex ∙ ap (power α) (mod-eq-of-lt (omega arith)))
+module _ (r f n : ℕ) (w : List ℕ) (count values left l : ℕ) (y : Ahead) (l′ : ℕ) (h : l < 63) (a : PlacedTo r f n w count values left l)
+    (q : QuotientNext f n r l y) (next : RootFrom r (l + 1) l′) where
+  v : ℕ
+  v = y .values % 64
+
+  value-here : v ≡ quotientAt f n (power α l)
+  unfolding v rootAt
+  value-here = sym (lane-zero (y .values)) ∙ q .ahead .at 0 (q .some)
 
   same : getD (set w (62 - l) v) (62 - l) 0 ≡ v
   same = getD-set-same w (62 - l) v 0 (omega (arith, a .long))
@@ -159,42 +179,114 @@ module _ (p s : List ℕ) (r : ℕ) (w : List ℕ) (n l x v l′ : ℕ) (sm : Sm
   other : (k : ℕ) → k < 63 → (k ≡ l → ⊥) → getD (set w (62 - l) v) (62 - k) 0 ≡ getD w (62 - k) 0
   other k b d = getD-set-other w (62 - l) (62 - k) v 0 (λ e. d (omega arith))
 
-  weight-is : weight (set w (62 - l) v) ≡ n + nonzero v
+  weight-is : weight (set w (62 - l) v) ≡ count + nonzero v
   weight-is = weight-set w (62 - l) v (omega (arith, a .long)) (a .later l (omega arith) h) ∙ ap (λ (m : ℕ). m + nonzero v) (sym (a .weighs))
 
-  turned : (n′ : ℕ) → n′ ≡ weight (set w (62 - l) v) → RootedTo p s r (set w (62 - l) v) n′ l′
-  turned n′ e =
+  -- the values after this one
+  moved : QuotientsAhead f n r l′ (record { values = y .values / 64; left = y .left - 1 })
+  unfolding rootAt
+  moved =
+      let m : l + 1 ≡ min (l + 1) 63 = omega arith in
+      let e : l′ ≡ rootAfter r l = root-after r l l′ (subst (λ (m : ℕ). RootFrom r m l′) m next) in
+      record {
+        few = (let g = q .ahead .few in omega arith);
+        at = λ j b. sym (lane-suc (y .values) j) ∙ q .ahead .at (suc j) (omega arith) ∙ ap (λ (m : ℕ). quotientAt f n (power α (rootAt r m j))) (sym e);
+      }
+
+  turned : (count′ : ℕ) → count′ ≡ weight (set w (62 - l) v) → PlacedTo r f n (set w (62 - l) v) count′ (y .values / 64) (y .left - 1) l′
+  turned count′ e =
       let m : l′ ≤ 63 = next .most in
       let g : l + 1 ≤ l′ = next .least in
       record {
-        is-roots = a .is-roots;
+        few = a .few;
+        ahead = moved;
         most = m;
+        here = next .here;
         long = length-set w (62 - l) v ∙ a .long;
-        done = λ k b.
-            ⊎-elim (λ (q : k ≡ l). subst (λ (i : ℕ). getD (set w (62 - l) v) (62 - i) 0 ≡ valueOf p s (power α i)) (sym q) (same ∙ here))
+        done = λ k b o.
+            ⊎-elim (λ (q : k ≡ l). subst (λ (i : ℕ). getD (set w (62 - l) v) (62 - i) 0 ≡ quotientAt f n (power α i)) (sym q) (same ∙ value-here))
             (λ (d : k ≡ l → ⊥).
             other k (omega arith) d
-            ∙ ⊎-elim (λ (c : l ≤ k). a .later k c (omega arith) ∙ no-value p s r k sm (a .is-roots) (omega arith) (next .none k (omega arith) b))
-            (λ (c : k < l). a .done k c) (le-or-lt l k))
+            ∙ ⊎-elim (λ (c : l ≤ k). absurd (let z : r / 2 ^ k % 2 ≡ 0 = next .none k (omega arith) b in omega arith)) (λ (c : k < l). a .done k c o) (le-or-lt l k))
             (same-or-not k l);
+        clear = λ k b z.
+            other k b (λ q. let o : r / 2 ^ k % 2 ≡ 1 = subst (λ (i : ℕ). r / 2 ^ i % 2 ≡ 1) (sym q) (a .here h) in omega arith) ∙ a .clear k b z;
         later = λ k b c. other k c (λ q. omega arith) ∙ a .later k (omega arith) c;
         weighs = e;
       }
 
-  pub turn-some : (n′ : ℕ) → (v ≡ 0 → ⊥) → n′ ≡ n + 1 → RootedTo p s r (set w (62 - l) v) n′ l′
-  turn-some n′ d e = turned n′ (e ∙ sym (weight-is ∙ ap (λ (m : ℕ). n + m) (nonzero-pos v (pos-of-not-zero v d))))
+  pub turn-some : (count′ : ℕ) → (y .values % 64 ≡ 0 → ⊥) → count′ ≡ count + 1
+      → PlacedTo r f n (set w (62 - l) (y .values % 64)) count′ (y .values / 64) (y .left - 1) l′
+  unfolding v
+  turn-some count′ d e = turned count′ (e ∙ sym (weight-is ∙ ap (λ (m : ℕ). count + m) (nonzero-pos v (pos-of-not-zero v d))))
 
-  pub turn-none : (n′ : ℕ) → v ≡ 0 → n′ ≡ n → RootedTo p s r (set w (62 - l) v) n′ l′
-  turn-none n′ z e = turned n′ (e ∙ sym (weight-is ∙ ap (λ (m : ℕ). n + nonzero m) z ∙ ap (λ (m : ℕ). n + m) nothing-counts ∙ add-zero n))
+  pub turn-none : (count′ : ℕ) → y .values % 64 ≡ 0 → count′ ≡ count
+      → PlacedTo r f n (set w (62 - l) (y .values % 64)) count′ (y .values / 64) (y .left - 1) l′
+  unfolding v
+  turn-none count′ z e = turned count′ (e ∙ sym (weight-is ∙ ap (λ (m : ℕ). count + nonzero m) z ∙ ap (λ (m : ℕ). count + m) nothing-counts ∙ add-zero count))
 
-pub rooted-count : (p s : List ℕ) (r : ℕ) (w : List ℕ) (n l : ℕ) → RootedTo p s r w n l → n ≤ 63
-rooted-count p s r w n l a = le-trans (le-of-eq (a .weighs)) (le-trans (weight-le w) (le-of-eq (a .long)))
+module _ (r f n : ℕ) (w : List ℕ) (count values left l : ℕ) (a : PlacedTo r f n w count values left l) where
+  pub placed-room : count + 1 < 256
+  placed-room =
+      let h : count ≤ 63 = le-trans (le-of-eq (a .weighs)) (le-trans (weight-le w) (le-of-eq (a .long))) in
+      omega arith
 
-pub rooted-room : (p s : List ℕ) (r : ℕ) (w : List ℕ) (n l : ℕ) → RootedTo p s r w n l → n + 1 < 256
-rooted-room p s r w n l a = let h : n ≤ 63 = rooted-count p s r w n l a in omega arith
+  pub placed-long : length w ≡ 63
+  placed-long = a .long
 
-pub rooted-long : (p s : List ℕ) (r : ℕ) (w : List ℕ) (n l : ℕ) → RootedTo p s r w n l → length w ≡ 63
-rooted-long p s r w n l a = a .long
+  pub placed-all : 63 ≤ l → Placed r f n (record { word = w; weight = count })
+  placed-all h = record { long = a .long; set = λ k b o. a .done k (omega arith) o; clear = a .clear; weighs = a .weighs }
 
-pub rooted-all : (p s : List ℕ) (r : ℕ) (w : List ℕ) (n l : ℕ) → 63 ≤ l → RootedTo p s r w n l → Patterned p s (record { word = w; weight = n })
-rooted-all p s r w n l h a = record { valued = record { long = a .long; entry = λ k b. a .done k (omega arith) }; weighs = a .weighs }
+-- ---- values_at_roots
+
+past-lane : (q k : ℕ) → q < 64 ^ k → lane q k ≡ 0
+unfolding lane
+past-lane q k h = ap (λ (n : ℕ). n % 64) (div-eq-of-lt h)
+
+-- the locator in six lanes
+held-lane : (row : ℕ) (p : List ℕ) (k : ℕ) → Coefficients row p → lane (row / 1073741824 % 68719476736) k ≡ getD p k 0
+held-lane row p k c =
+    ⊎-elim
+    (λ (h : 6 ≤ k).
+    past-lane (row / 1073741824 % 68719476736) k (lt-of-lt-of-le (mod-lt (row / 1073741824) (omega arith)) (pow-le-pow-right {n = 64} (omega arith) {i = 6} {j = k} h))
+    ∙ sym (List·getD-eq-default p 0 (omega (arith, c .wide))))
+    (λ (h : k < 6).
+    ap (λ (q : ℕ). lane q k) (pack-lanes 6 (row / 1073741824)) ∙ lane-pack 6 (lane (row / 1073741824)) (lane-lt (row / 1073741824)) k h ∙ lane-after row 5 k
+    ∙ sym (c .entry k h))
+    (le-or-lt 6 k)
+
+module _ (row : ℕ) (p s : List ℕ) (n f : ℕ) (c : Coefficients row p) (k : Kills p s n) (b : BothIn (row / 1073741824 % 68719476736) s n f) where
+  -- at a root the quotient is the value
+  root-value : (x : ℕ) → polyAt p x ≡ 0 → quotientAt f n x ≡ valueOf p s x
+  unfolding quotientAt upper lower upperOf lowerOf
+  root-value x root =
+      ap (product (power x (5 - n)))
+      (ap₂ (λ (u v : ℕ). product u (inverse v))
+      (window-is p s x (c .wide) n (lane f)
+      (λ m l.
+      b .above m l
+      ∙ total-same 5 (λ i. product (lane (row / 1073741824 % 68719476736) (suc (m + i))) (getD s (n + i) 0)) (λ i. product (getD p (suc (m + i)) 0) (getD s (n + i) 0))
+      (λ i g. ap (λ (t : ℕ). product t (getD s (n + i) 0)) (held-lane row p (suc (m + i)) c))))
+      (slope-is p s x (c .wide) (λ m. lane f (5 + m)) (b .under 0 (omega arith) ∙ held-lane row p 1 c) (b .under 1 (omega arith))
+      (b .under 2 (omega arith) ∙ held-lane row p 3 c) (b .under 3 (omega arith)) (b .under 4 (omega arith) ∙ held-lane row p 5 c)))
+      ∙ value-is-quotient p s x n (c .wide) root k
+
+  -- where there is no root there is no value
+  no-value : (r l : ℕ) → RootsOf p r → l < 63 → r / 2 ^ l % 2 ≡ 0 → 0 ≡ valueOf p s (power α l)
+  unfolding valueOf
+  no-value r l o h z = simp (ne-eqb (polyAt p (power α l)) 0 (clear-other p r (coefficients-small row p c .small) o l h z))
+
+  pub values-placed : (r : ℕ) (y : Pattern) → RootsOf p r → Placed r f n y → Patterned p s y
+  values-placed r y o a =
+      record {
+        valued = record {
+          long = a .long;
+          entry = λ l h.
+              ⊎-elim (λ (z : r / 2 ^ l % 2 ≡ 0). a .clear l h z ∙ no-value r l o h z)
+              (λ (d : r / 2 ^ l % 2 ≡ 0 → ⊥).
+              let i : r / 2 ^ l % 2 ≡ 1 = omega arith in
+              a .set l h i ∙ root-value (power α l) (set-root p r (coefficients-small row p c .small) o l h i))
+              (same-or-not (r / 2 ^ l % 2) 0);
+        };
+        weighs = a .weighs;
+      }

@@ -23,7 +23,7 @@ use Rattle.mender.proofs.Rows.{pack-none}
 
 -- ---- lane_of
 
-pow-lane : (j : ℕ) → 2 ^ (6 * j) ≡ 64 ^ j
+pub pow-lane : (j : ℕ) → 2 ^ (6 * j) ≡ 64 ^ j
 pow-lane zero = refl
 pow-lane (suc j) =
     let n : ℕ = 6 * j in

@@ -29,6 +29,7 @@ pub record RootFrom (roots from r : ℕ) : Type 0 where
   pub least : from ≤ r
   pub most : r ≤ 63
   pub none : (l : ℕ) → from ≤ l → l < r → roots / 2 ^ l % 2 ≡ 0
+  pub here : r < 63 → roots / 2 ^ r % 2 ≡ 1
 
 -- the characters are the values at their places, and counted
 pub record Patterned (p s : List ℕ) (r : Pattern) : Type 0 where

@@ -3,3 +3,4 @@ pub mod Mender
 pub mod Inside
 pub mod Found
 pub mod Rows
+pub mod Values

@@ -1,23 +1,17 @@
 // Mending: from power sums to the errors that have them, and the nearest word with given sums.
 ghost use mathlib.Core.Path.{_≡_};
-ghost use mathlib.Core.List.{List, []};
-ghost use Prim.Native.Nat.{ℕ, suc, min, _+_, _-_, _/_, _%_, _<_, _≤_};
+ghost use Prim.Native.Nat.{suc, min, _/_, _<_, _≤_};
 ghost use lib.ListN.{length, getD};
 ghost use Rattle.refusal.specs.Promise.{Tells};
-ghost use Rattle.field.specs.Field.{product, power};
-ghost use Rattle.field.specs.Inside.{inverse};
 ghost use Rattle.lanes.specs.Lanes.{lane};
-ghost use Rattle.polynomial.specs.Sums.{weight};
-ghost use Rattle.polynomial.specs.Polynomial.{over};
 ghost use Rattle.code.specs.Word.{added};
 ghost use Rattle.mender.specs.Mender.{MendsTo, Mends, NearestWith, NearestClean};
 ghost use mathlib.Core.Bool.{true, false};
 ghost use Rattle.code.specs.Held.{eleven};
 ghost use Rattle.mender.specs.Found.{lone, OneError, RootFrom, Patterned, ElementsTo, Clear, Repairs, sixth};
-
-ghost use Rattle.mender.specs.Rows.{SumsIn, UnitRows, PivotRow, Multiples, RowsCleared, RowsFrom, FirstRow, Coefficients};
-ghost use Rattle.mender.specs.Inside.{mixed, coef, Units, Spanned, Pivot, RowAdded, Stepped, First, Small, valueOf, ValuedFrom, Agree, Nothing};
-
+ghost use Rattle.mender.specs.Rows.{UnitRows, PivotRow, Multiples, RowsCleared, RowsFrom, FirstRow, Coefficients};
+ghost use Rattle.mender.specs.Inside.{Agree, Nothing};
+ghost use Rattle.mender.specs.Values.{Placed, PlacesFrom, QuotientsIn, QuotientsAhead, QuotientNext, BothAt, Spread, InversesIn, Raised, UpperIn, LowerIn, BothIn, Kills};
 use code::Eleven;
 
 // A word that was found, and how many of its characters are not 0, or how far it lies.
@@ -38,6 +32,12 @@ struct Single {
 struct Pattern {
     word: [u8; 63],
     weight: u8,
+}
+
+// Values at the next roots, in lanes, the nearest lowest: so many are left.
+struct Ahead {
+    values: u64,
+    left: usize,
 }
 
 // The errors whose first c power sums these are, S_-5 first, e of them at most: c counts up to 11, and e up to half of c.
@@ -198,7 +198,7 @@ fn find(s: Eleven, c: usize, e: usize) -> Mended
         }
     }
     let sums = code::unpacked(s);
-    let pattern = values_at_roots(coefficients(row), sums);
+    let pattern = values_at_roots(row, coefficients(row), sums, least(c - c / 2, 5));
     if pattern.weight as usize > e {
         return nothing();
     }
@@ -225,41 +225,45 @@ fn sixth_window(x: u64, s: Eleven) -> bool
     true
 }
 
-// Window j of the sums, combined with q.
-fn mix(q: [u8; 6], s: [u8; 11], j: usize) -> u8
-    requires { ⌜ j < 6 ⌝ }
-    ensures { λ r. ⌜ r ≡ mixed (coef q) s j ⌝ }
-{
-    let mut sum: u8 = 0;
-    let mut k: usize = 0;
-    while k < 6 {
-        sum = sum ^ field::times(q[k], s[j + k]);
-        k += 1;
-    }
-    sum
-}
-
-// The values at the roots of the locator p, place by place from 1 on: the place of address 62 - l is α^l. No other place has a value.
-fn values_at_roots(p: [u8; 6], s: [u8; 11]) -> Pattern
-    requires { ⌜ Small p ⌝ }
+// The values at the roots of the locator p, the coefficients of a row that combines the first n windows to 0, place by place from 1 on: the place of
+// address 62 - l is α^l. No other place has a value.
+fn values_at_roots(row: u64, p: [u8; 6], s: [u8; 11], n: usize) -> Pattern
+    requires { ⌜ Coefficients row p ⌝ }
+    requires { ⌜ Kills p s n ⌝ }
     ensures { λ r. ⌜ Patterned p s r ⌝ }
 {
-    let roots = planes::roots(p);
+    placed(
+        planes::roots(p),
+        both_polynomials(row / FIVE_LANES % SIX_LANES, s, n),
+        n,
+    )
+}
+
+// A value at each root, and at no other place.
+fn placed(roots: u64, f: u64, n: usize) -> Pattern
+    requires { ⌜ n ≤ 5 ⌝ }
+    ensures { λ r. ⌜ Placed roots f n r ⌝ }
+{
     let mut w = [0u8; 63];
-    let mut n: u8 = 0;
+    let mut count: u8 = 0;
+    let mut values: u64 = 0;
+    let mut left: usize = 0;
     let mut l = root_from(roots, 0);
     while l < 63 {
-        let v = value(p, s, places::power_of(l as u8));
+        let ahead = looked_ahead(Ahead { values, left }, f, n, roots, l);
+        let v = (ahead.values % 64) as u8;
         w[62 - l] = v;
         if v != 0 {
-            n += 1;
+            count += 1;
         }
+        values = ahead.values / 64;
+        left = ahead.left - 1;
         let after = root_from(roots, l + 1);
         l = after;
     }
     Pattern {
         word: w,
-        weight: n,
+        weight: count,
     }
 }
 
@@ -268,50 +272,129 @@ fn root_from(roots: u64, from: usize) -> usize
     requires { ⌜ from ≤ 63 ⌝ }
     ensures { λ r. ⌜ RootFrom roots from r ⌝ }
 {
-    let rest = roots % 9223372036854775808 >> from;
-    if rest == 0 {
-        return 63;
-    }
+    let rest = (roots % 9223372036854775808 + 9223372036854775808) >> from;
     from + u64::trailing_zeros(rest) as usize
 }
 
-// The value at the place x, by the locator p.
-fn value(p: [u8; 6], s: [u8; 11], x: u8) -> u8
-    requires { ⌜ Small p ⌝ }
-    ensures { λ r. ⌜ r ≡ valueOf p s x ⌝ }
+// The values at the next roots from l on: those of the next five where none is left. A locator has no more than five.
+fn looked_ahead(ahead: Ahead, f: u64, n: usize, roots: u64, l: usize) -> Ahead
+    requires { ⌜ (n ≤ 5) × (l ≤ 63) ⌝ }
+    requires { ⌜ QuotientsAhead f n roots l ahead ⌝ }
+    ensures { λ r. ⌜ QuotientNext f n roots l r ⌝ }
 {
-    let q = divided(p, x);
-    if p[0] ^ field::times(x, q[0]) != 0 {
-        return 0;
+    if ahead.left > 0 {
+        return ahead;
     }
-    let t = divided(q, x);
-    let d = q[0] ^ field::times(x, t[0]);
-    if d == 0 {
-        return 0;
-    }
-    field::over(field::times(mix(q, s, 0), fifth_power(x)), d)
+    let values = quotients(f, n, places_from(roots, l));
+    Ahead { values, left: 5 }
 }
 
-// The quotient of p by x + r, and a 0 after it.
-fn divided(p: [u8; 6], r: u8) -> [u8; 6]
-    ensures { λ q. ⌜ q ≡ over p r ⌝ }
+// The place of l and those of the four roots after it, in lanes: where there are fewer, 1 stands for each other.
+fn places_from(roots: u64, l: usize) -> u64
+    requires { ⌜ l ≤ 63 ⌝ }
+    ensures { λ r. ⌜ PlacesFrom roots l r ⌝ }
 {
-    let mut q = [0u8; 6];
-    let mut v: u8 = 0;
-    let mut k: usize = 6;
+    let mut x: u64 = 0;
+    let mut at = l;
+    let mut i: usize = 0;
+    while i < 5 {
+        x = x / 64 + places::power_of(at as u8) as u64 * 16777216;
+        let after = root_from(roots, least(at + 1, 63));
+        at = after;
+        i += 1;
+    }
+    x
+}
+
+// The values at five places: a quotient of two polynomials, and a power of the place for each window of five that is not combined to 0.
+fn quotients(f: u64, n: usize, x: u64) -> u64
+    requires { ⌜ (n ≤ 5) × (x < 1073741824) ⌝ }
+    ensures { λ r. ⌜ QuotientsIn f n x r ⌝ }
+{
+    let both = both_at(f, x);
+    raised(lanes::products(both, inverses(both / FIVE_LANES)), x, n)
+}
+
+// Two polynomials at five places.
+fn both_at(f: u64, x: u64) -> u64
+    requires { ⌜ x < 1073741824 ⌝ }
+    ensures { λ r. ⌜ BothAt f x r ⌝ }
+{
+    let twice = x + x * FIVE_LANES;
+    let mut r: u64 = 0;
+    let mut m: usize = 5;
+    while m > 0 {
+        m -= 1;
+        r = lanes::products(twice, r) ^ spread(f, m);
+    }
+    r
+}
+
+// Coefficient m of the one polynomial in five lanes, and of the other in five.
+fn spread(f: u64, m: usize) -> u64
+    requires { ⌜ m < 5 ⌝ }
+    ensures { λ r. ⌜ Spread f m r ⌝ }
+{
+    let q = f >> (6 * m);
+    (q % 64 + q / FIVE_LANES % 64 * FIVE_LANES) * 17043521
+}
+
+// The inverses of five lanes.
+fn inverses(d: u64) -> u64
+    ensures { λ r. ⌜ InversesIn d r ⌝ }
+{
+    let mut r: u64 = 0;
+    let mut q = d;
+    let mut i: usize = 0;
+    while i < 5 {
+        r = r / 64 + field::inverse((q % 64) as u8) as u64 * 16777216;
+        q = q / 64;
+        i += 1;
+    }
+    r
+}
+
+// Five lanes, each times its place for each of the powers from n to 5.
+fn raised(v: u64, x: u64, n: usize) -> u64
+    requires { ⌜ n ≤ 5 ⌝ }
+    ensures { λ r. ⌜ Raised v x n r ⌝ }
+{
+    let mut r = v;
+    let mut k = n;
+    while k < 5 {
+        r = lanes::products(x, r);
+        k += 1;
+    }
+    r
+}
+
+// The two polynomials of the locator q, each in five lanes.
+fn both_polynomials(q: u64, s: [u8; 11], n: usize) -> u64
+    requires { ⌜ n ≤ 5 ⌝ }
+    ensures { λ r. ⌜ BothIn q s n r ⌝ }
+{
+    upper_polynomial(q, s, n) + lower_polynomial(q) * FIVE_LANES
+}
+
+// The one of the locator q and the sums from n on.
+fn upper_polynomial(q: u64, s: [u8; 11], n: usize) -> u64
+    requires { ⌜ n ≤ 5 ⌝ }
+    ensures { λ r. ⌜ UpperIn q s n r ⌝ }
+{
+    let mut c: u64 = 0;
+    let mut k: usize = 5;
     while k > 0 {
         k -= 1;
-        q[k] = v;
-        v = p[k] ^ field::times(r, v);
+        c = (c ^ lanes::scale(q, s[n + k])) / 64;
     }
-    q
+    c % FIVE_LANES
 }
 
-fn fifth_power(x: u8) -> u8
-    ensures { λ r. ⌜ r ≡ power x 5 ⌝ }
+// The locator's derivative: every second coefficient.
+fn lower_polynomial(q: u64) -> u64
+    ensures { λ r. ⌜ LowerIn q r ⌝ }
 {
-    let square = field::times(x, x);
-    field::times(x, field::times(square, square))
+    q / 64 % 64 + q / 262144 % 64 * 4096 + q / 1073741824 % 64 * 16777216
 }
 
 // Whether the first c sums agree.
@@ -376,8 +459,10 @@ fn no_single() -> Single
 
 // The rows once more, each packed in one number: lanes 0 to 4 have what the row combines windows 0 to 4 to, and lanes 5 to 10 its coefficients.
 
-// The least number that five lanes do not hold, and ten.
+// The least number that five lanes do not hold, and six, and ten.
 const FIVE_LANES: u64 = 1073741824;
+
+const SIX_LANES: u64 = 68719476736;
 
 const TEN_LANES: u64 = 1152921504606846976;
 

@@ -1,7 +1,7 @@
 -- `mender::find` meets its contract: each return is one way in which the search ends.
 use borrow.Author.Needs.{needs}
 use borrow.Author.Tests.{not-true, not-false}
-use Rattle.mender.proofs.Locating.{coefficients-small, no-row, not-sixth, too-heavy, other-sums, this-word}
+use Rattle.mender.proofs.Locating.{locator-kills, no-row, not-sixth, too-heavy, other-sums, this-word}
 use Rattle.mender.proofs.find.Statement.{statement}
 use Rattle.mender.proofs.find.Tie as tie
 
@@ -12,7 +12,7 @@ returns-2 : tie.Need-returns-2
 returns-2 c = search (not-sixth, not-true, needs)
 
 values-at-roots-requires : tie.Need-values-at-roots-requires
-values-at-roots-requires c κs = search (coefficients-small, needs)
+values-at-roots-requires c κs = search (locator-kills, needs)
 
 returns-3 : tie.Need-returns-3
 returns-3 c = search (too-heavy, needs)
@@ -38,6 +38,8 @@ find-spec =
     (λ c κs. search needs)
     returns-2
     (λ c κs. search needs)
+    (λ c κs. search needs)
+    (λ c. search needs)
     (λ c κs. search needs)
     values-at-roots-requires
     (λ c. search needs)

@@ -1,0 +1,117 @@
+-- The values at five roots at once, in lanes: the places of the roots, and the two polynomials whose quotient at each place is the value.
+use mathlib.Core.Path.{_≡_}
+use mathlib.Core.Bool.{cond}
+use mathlib.Core.List.{List}
+use Prim.Native.Nat.{ℕ, zero, suc, min, _+_, _-_, _/_, _%_, _^_, _<_, _≤_}
+use lib.Dec.{eqb}
+use lib.ListN.{length, getD}
+use Rattle.field.specs.Field.{sum, product, α, power, total}
+use Rattle.field.specs.Inside.{inverse}
+use Rattle.lanes.specs.Lanes.{lane}
+use Rattle.polynomial.specs.Sums.{weight}
+use Rattle.mender.specs.declared.Ahead.{Ahead}
+use Rattle.mender.specs.declared.Pattern.{Pattern}
+use Rattle.mender.specs.Inside.{mixed, coef}
+
+-- ---- the roots from a place on
+
+-- the first of n bits from l on that is set, or the one after them
+unfoldable pub firstSet : ℕ → ℕ → ℕ → ℕ
+firstSet zero roots l = l
+firstSet (suc n) roots l = cond (eqb (roots / 2 ^ l % 2) 0) (firstSet n roots (suc l)) l
+
+-- the root after the place l, or 63
+unfoldable pub rootAfter : ℕ → ℕ → ℕ
+rootAfter roots l = firstSet (63 - min (l + 1) 63) roots (min (l + 1) 63)
+
+-- the place j roots after l
+unfoldable pub rootAt : ℕ → ℕ → ℕ → ℕ
+rootAt roots l zero = l
+rootAt roots l (suc j) = rootAt roots (rootAfter roots l) j
+
+-- five places from l on, in lanes
+pub record PlacesFrom (roots l r : ℕ) : Type 0 where
+  pub below : r < 64 ^ 5
+  pub place : (j : ℕ) → j < 5 → lane r j ≡ power α (rootAt roots l j)
+
+-- ---- two polynomials of five coefficients each, in the ten lanes of one number
+
+-- f m + x (f (m + 1) + x (..)), n terms
+unfoldable pub evaluated : ℕ → ℕ → (ℕ → ℕ) → ℕ → ℕ
+evaluated zero m f x = 0
+evaluated (suc n) m f x = sum (f m) (product x (evaluated n (suc m) f x))
+
+-- the value of the first, in lanes 0 to 4, and that of the second, in the lanes after them
+unfoldable pub upper : ℕ → ℕ → ℕ
+upper f x = evaluated 5 0 (lane f) x
+
+unfoldable pub lower : ℕ → ℕ → ℕ
+lower f x = evaluated 5 0 (λ m. lane f (5 + m)) x
+
+-- their quotient, 0 where the second is 0, times the fifth power of x of which n factors are in it already
+unfoldable pub quotientAt : ℕ → ℕ → ℕ → ℕ
+quotientAt f n x = product (power x (5 - n)) (product (upper f x) (inverse (lower f x)))
+
+-- coefficient m of the first for the locator in the lanes of q and the sums from n on
+unfoldable pub upperOf : ℕ → List ℕ → ℕ → ℕ → ℕ
+upperOf q s n m = total 5 (λ k. product (lane q (suc (m + k))) (getD s (n + k) 0))
+
+-- and of the second, the derivative
+unfoldable pub lowerOf : ℕ → ℕ → ℕ
+lowerOf q m = cond (eqb (m % 2) 0) (lane q (suc m)) 0
+
+pub record UpperIn (q : ℕ) (s : List ℕ) (n r : ℕ) : Type 0 where
+  pub below : r < 64 ^ 5
+  pub at : (m : ℕ) → m < 5 → lane r m ≡ upperOf q s n m
+
+pub record LowerIn (q r : ℕ) : Type 0 where
+  pub below : r < 64 ^ 5
+  pub at : (m : ℕ) → m < 5 → lane r m ≡ lowerOf q m
+
+pub record BothIn (q : ℕ) (s : List ℕ) (n r : ℕ) : Type 0 where
+  pub above : (m : ℕ) → m < 5 → lane r m ≡ upperOf q s n m
+  pub under : (m : ℕ) → m < 5 → lane r (5 + m) ≡ lowerOf q m
+
+-- coefficient m of the first in each of five lanes, and that of the second in each of the five after them
+pub record Spread (f m r : ℕ) : Type 0 where
+  pub above : (j : ℕ) → j < 5 → lane r j ≡ lane f m
+  pub under : (j : ℕ) → j < 5 → lane r (5 + j) ≡ lane f (5 + m)
+
+-- both at five places
+pub record BothAt (f x r : ℕ) : Type 0 where
+  pub above : (j : ℕ) → j < 5 → lane r j ≡ upper f (lane x j)
+  pub under : (j : ℕ) → j < 5 → lane r (5 + j) ≡ lower f (lane x j)
+
+pub record InversesIn (d r : ℕ) : Type 0 where
+  pub at : (j : ℕ) → j < 5 → lane r j ≡ inverse (lane d j)
+
+-- each lane times a power of the lane of x
+pub record Raised (v x n r : ℕ) : Type 0 where
+  pub at : (j : ℕ) → j < 5 → lane r j ≡ product (power (lane x j) (5 - n)) (lane v j)
+
+pub record QuotientsIn (f n x r : ℕ) : Type 0 where
+  pub at : (j : ℕ) → j < 5 → lane r j ≡ quotientAt f n (lane x j)
+
+-- the quotients at the next few roots from l on
+pub record QuotientsAhead (f n roots l : ℕ) (a : Ahead) : Type 0 where
+  pub few : a .left ≤ 5
+  pub at : (j : ℕ) → j < a .left → lane (a .values) j ≡ quotientAt f n (power α (rootAt roots l j))
+
+-- and at least one of them
+pub record QuotientNext (f n roots l : ℕ) (a : Ahead) : Type 0 where
+  pub some : 0 < a .left
+  pub ahead : QuotientsAhead f n roots l a
+
+-- the quotient at each root, 0 at every other place, and how many are not 0
+pub record Placed (roots f n : ℕ) (r : Pattern) : Type 0 where
+  pub long : length (r .word) ≡ 63
+  pub set : (l : ℕ) → l < 63 → roots / 2 ^ l % 2 ≡ 1 → getD (r .word) (62 - l) 0 ≡ quotientAt f n (power α l)
+  pub clear : (l : ℕ) → l < 63 → roots / 2 ^ l % 2 ≡ 0 → getD (r .word) (62 - l) 0 ≡ 0
+  pub weighs : r .weight ≡ weight (r .word)
+
+-- ---- the locator
+
+-- p combines the first n windows to 0
+pub record Kills (p s : List ℕ) (n : ℕ) : Type 0 where
+  pub few : n ≤ 5
+  pub window : (j : ℕ) → j < n → mixed (coef p) s j ≡ 0

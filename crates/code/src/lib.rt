@@ -125,7 +125,9 @@ pub fn eleven_sums(word: &[u8]) -> Eleven
     let sums = packed_sums(word);
     let outer = sums.outer;
     Eleven {
-        first: outer % 1073741824 + (sums.middle % 64) as u64 * 1073741824 + outer / 1073741824 % 16777216 * 68719476736,
+        first: outer % 1073741824
+            + (sums.middle % 64) as u64 * 1073741824
+            + outer / 1073741824 % 16777216 * 68719476736,
         last: (outer / 18014398509481984 % 64) as u8,
     }
 }

@@ -25,7 +25,7 @@ use Rattle.mender.specs.declared.Pattern.{Pattern}
 use Rattle.mender.specs.Inside.{valueOf}
 use Rattle.mender.specs.Found.{RootFrom, Patterned}
 use Rattle.mender.specs.Rows.{Coefficients}
-use Rattle.mender.specs.Values.{rootAfter, rootAt, upper, lower, upperOf, lowerOf, quotientAt, BothIn, QuotientsAhead, QuotientNext, Placed, Kills}
+use Rattle.mender.specs.Values.{rootAfter, rootAt, numeratorAt, denominatorAt, numeratorOf, denominatorOf, quotientAt, FractionIn, QuotientsAhead, QuotientNext, Placed, Kills}
 use Rattle.mender.specs.declared.Ahead.{Ahead}
 use Rattle.mender.proofs.OneError.{zero-get, weight-set, weight-nothing, nonzero-pos}
 use Rattle.mender.proofs.Locating.{coefficients-small}
@@ -255,10 +255,10 @@ held-lane row p k c =
     ∙ sym (c .entry k h))
     (le-or-lt 6 k)
 
-module _ (row : ℕ) (p s : List ℕ) (n f : ℕ) (c : Coefficients row p) (k : Kills p s n) (b : BothIn (row / 1073741824 % 68719476736) s n f) where
+module _ (row : ℕ) (p s : List ℕ) (n f : ℕ) (c : Coefficients row p) (k : Kills p s n) (b : FractionIn (row / 1073741824 % 68719476736) s n f) where
   -- at a root the quotient is the value
   root-value : (x : ℕ) → polyAt p x ≡ 0 → quotientAt f n x ≡ valueOf p s x
-  unfolding quotientAt upper lower upperOf lowerOf
+  unfolding quotientAt numeratorAt denominatorAt numeratorOf denominatorOf
   root-value x root =
       ap (product (power x (5 - n)))
       (ap₂ (λ (u v : ℕ). product u (inverse v))

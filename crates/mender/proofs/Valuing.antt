@@ -20,7 +20,7 @@ use Rattle.lanes.proofs.Laws.{lane-lt, lane-zero, lane-suc, lane-after, lane-xo
 use Rattle.mender.specs.declared.Ahead.{Ahead}
 use Rattle.mender.specs.Found.{RootFrom}
 use Rattle.mender.proofs.RowTurns.{pow-lane}
-use Rattle.mender.specs.Values.{firstSet, rootAfter, rootAt, PlacesFrom, evaluated, upper, lower, quotientAt, upperOf, lowerOf, UpperIn, LowerIn, BothIn, Spread, BothAt, InversesIn, Raised, QuotientsIn, QuotientsAhead, QuotientNext}
+use Rattle.mender.specs.Values.{firstSet, rootAfter, rootAt, PlacesFrom, evaluated, numeratorAt, denominatorAt, quotientAt, numeratorOf, denominatorOf, NumeratorIn, DenominatorIn, FractionIn, Spread, BothAt, InversesIn, Raised, QuotientsIn, QuotientsAhead, QuotientNext}
 
 -- ---- lanes
 
@@ -54,7 +54,7 @@ module _ (x c : ℕ) (h : x < 64 ^ 5) (g : c < 64) where
       (λ j m. pushed-moved (5 - (i + 1) + j) (omega arith) ∙ ap (lane x) (omega arith) ∙ d j m)
       (ap (lane (x / 64 + c * 16777216)) (omega arith) ∙ pushed-last ∙ e)
 
--- two numbers side by side, the lower in five lanes
+-- two numbers side by side, the first in five lanes
 module _ (a b : ℕ) (h : a < 64 ^ 5) where
   joined-low : (k : ℕ) → k < 5 → lane (a + b * 1073741824) k ≡ lane a k
   joined-low k l = low-lanes (a + b * 1073741824) a 5 k h (omega arith) l
@@ -64,7 +64,7 @@ module _ (a b : ℕ) (h : a < 64 ^ 5) where
 
 -- ---- the roots from a place on
 
--- a place from which no bit was passed over
+-- no bit that is set is passed over
 first-set : (n roots l : ℕ) → n + l ≡ 63 → RootFrom roots l (firstSet n roots l)
 unfolding firstSet
 first-set zero roots l e = record { least = omega arith; most = omega arith; none = λ k g b. absurd (omega arith); here = λ b. absurd (omega arith) }
@@ -261,7 +261,7 @@ both-again f x y r (suc m) t c h a e s =
     one m = omega arith
 
 pub both-all : (f x y r m : ℕ) → m ≤ 0 → BothTo f x y r m → BothAt f x r
-unfolding upper lower
+unfolding numeratorAt denominatorAt
 both-all f x y r m h a =
     let z : m ≡ 0 = omega arith in
     record {
@@ -322,22 +322,22 @@ quotients-are f n x both d t r b i e a =
           (products-lane both d t j e (omega arith) ∙ ap₂ product (b .above j l) (i .at j l ∙ ap inverse (lane-after both 5 j ∙ b .under j l)));
     }
 
--- ---- the two polynomials
+-- ---- numerator, denominator and fraction
 
 -- the sums from k on are in
-pub record UpperTo (q : ℕ) (s : List ℕ) (n c k : ℕ) : Type 0 where
+pub record NumeratorTo (q : ℕ) (s : List ℕ) (n c k : ℕ) : Type 0 where
   pub most : k ≤ 5
   pub at : (m : ℕ) → m < 5 + k → lane c m ≡ total (5 - k) (λ i. product (lane q (suc (m + i))) (getD s (n + (k + i)) 0))
 
-pub upper-none : (q : ℕ) (s : List ℕ) (n : ℕ) → UpperTo q s n 0 5
+pub numerator-none : (q : ℕ) (s : List ℕ) (n : ℕ) → NumeratorTo q s n 0 5
 unfolding total
-upper-none q s n = record { most = omega arith; at = λ m l. no-lane m }
+numerator-none q s n = record { most = omega arith; at = λ m l. no-lane m }
 
-pub upper-again : (q : ℕ) (s : List ℕ) (n c k t : ℕ) → 0 < k → UpperTo q s n c k → t ≡ pack 10 (λ i. product (lane q i) (getD s (n + (k - 1)) 0))
-    → UpperTo q s n (bitXor c t / 64) (k - 1)
-upper-again q s n c zero t h a e = absurd (omega arith)
-upper-again q s n c (suc k) t h a e =
-    subst (λ (i : ℕ). t ≡ pack 10 (λ l. product (lane q l) (getD s (n + i) 0)) → UpperTo q s n (bitXor c t / 64) i) (one k)
+pub numerator-again : (q : ℕ) (s : List ℕ) (n c k t : ℕ) → 0 < k → NumeratorTo q s n c k → t ≡ pack 10 (λ i. product (lane q i) (getD s (n + (k - 1)) 0))
+    → NumeratorTo q s n (bitXor c t / 64) (k - 1)
+numerator-again q s n c zero t h a e = absurd (omega arith)
+numerator-again q s n c (suc k) t h a e =
+    subst (λ (i : ℕ). t ≡ pack 10 (λ l. product (lane q l) (getD s (n + i) 0)) → NumeratorTo q s n (bitXor c t / 64) i) (one k)
     (λ e.
     record {
       most = (let b = a .most in omega arith);
@@ -357,9 +357,9 @@ upper-again q s n c (suc k) t h a e =
     one : (k : ℕ) → k ≡ suc k - 1
     one k = omega arith
 
-pub upper-all : (q : ℕ) (s : List ℕ) (n c k : ℕ) → k ≤ 0 → UpperTo q s n c k → UpperIn q s n (c % 1073741824)
-unfolding upperOf
-upper-all q s n c k h a =
+pub numerator-all : (q : ℕ) (s : List ℕ) (n c k : ℕ) → k ≤ 0 → NumeratorTo q s n c k → NumeratorIn q s n (c % 1073741824)
+unfolding numeratorOf
+numerator-all q s n c k h a =
     let z : k ≡ 0 = omega arith in
     record {
       below = omega arith;
@@ -370,26 +370,26 @@ upper-all q s n c k h a =
           (λ i b. ap (λ (u : ℕ). product (lane q (suc (m + i))) (getD s (n + u) 0)) (zero-add i));
     }
 
-lower-lt : (q m : ℕ) → lowerOf q m < 64
-unfolding lowerOf
-lower-lt q m =
+denominator-lt : (q m : ℕ) → denominatorOf q m < 64
+unfolding denominatorOf
+denominator-lt q m =
     ⊎-elim (λ (e : m % 2 ≡ 0). simp (eq-eqb (m % 2) 0 e) (lane-lt q (suc m))) (λ (d : m % 2 ≡ 0 → ⊥). simp (ne-eqb (m % 2) 0 d) (omega arith)) (same-or-not (m % 2) 0)
 
-lower-packed : (q : ℕ) → q / 64 % 64 + q / 262144 % 64 * 4096 + q / 1073741824 % 64 * 16777216 ≡ pack 5 (lowerOf q)
-unfolding pack lowerOf lane
-lower-packed q = omega arith
+denominator-packed : (q : ℕ) → q / 64 % 64 + q / 262144 % 64 * 4096 + q / 1073741824 % 64 * 16777216 ≡ pack 5 (denominatorOf q)
+unfolding pack denominatorOf lane
+denominator-packed q = omega arith
 
-pub lower-is : (q : ℕ) → LowerIn q (q / 64 % 64 + q / 262144 % 64 * 4096 + q / 1073741824 % 64 * 16777216)
-lower-is q = record { below = omega arith; at = λ m l. ap (λ (n : ℕ). lane n m) (lower-packed q) ∙ lane-pack 5 (lowerOf q) (lower-lt q) m l }
+pub denominator-is : (q : ℕ) → DenominatorIn q (q / 64 % 64 + q / 262144 % 64 * 4096 + q / 1073741824 % 64 * 16777216)
+denominator-is q = record { below = omega arith; at = λ m l. ap (λ (n : ℕ). lane n m) (denominator-packed q) ∙ lane-pack 5 (denominatorOf q) (denominator-lt q) m l }
 
-pub both-fit : (q : ℕ) (s : List ℕ) (n u v : ℕ) → UpperIn q s n u → LowerIn q v → u + v * 1073741824 < 18446744073709551616
-both-fit q s n u v a b = let f = a .below in let g = b .below in omega arith
+pub fraction-fit : (q : ℕ) (s : List ℕ) (n u v : ℕ) → NumeratorIn q s n u → DenominatorIn q v → u + v * 1073741824 < 18446744073709551616
+fraction-fit q s n u v a b = let f = a .below in let g = b .below in omega arith
 
-pub both-mul : (q v : ℕ) → LowerIn q v → v * 1073741824 < 18446744073709551616
-both-mul q v b = let g = b .below in omega arith
+pub fraction-mul : (q v : ℕ) → DenominatorIn q v → v * 1073741824 < 18446744073709551616
+fraction-mul q v b = let g = b .below in omega arith
 
-pub both-are : (q : ℕ) (s : List ℕ) (n u v : ℕ) → UpperIn q s n u → LowerIn q v → BothIn q s n (u + v * 1073741824)
-both-are q s n u v a b =
+pub fraction-is : (q : ℕ) (s : List ℕ) (n u v : ℕ) → NumeratorIn q s n u → DenominatorIn q v → FractionIn q s n (u + v * 1073741824)
+fraction-is q s n u v a b =
     record {
       above = λ m l. joined-low u v (a .below) m l ∙ a .at m l;
       under = λ m l. joined-high u v (a .below) m ∙ b .at m l;

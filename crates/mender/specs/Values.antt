@@ -34,53 +34,53 @@ pub record PlacesFrom (roots l r : ℕ) : Type 0 where
   pub below : r < 64 ^ 5
   pub place : (j : ℕ) → j < 5 → lane r j ≡ power α (rootAt roots l j)
 
--- ---- two polynomials of five coefficients each, in the ten lanes of one number
+-- ---- a fraction: two polynomials of five coefficients each, in the ten lanes of one number
 
 -- f m + x (f (m + 1) + x (..)), n terms
 unfoldable pub evaluated : ℕ → ℕ → (ℕ → ℕ) → ℕ → ℕ
 evaluated zero m f x = 0
 evaluated (suc n) m f x = sum (f m) (product x (evaluated n (suc m) f x))
 
--- the value of the first, in lanes 0 to 4, and that of the second, in the lanes after them
-unfoldable pub upper : ℕ → ℕ → ℕ
-upper f x = evaluated 5 0 (lane f) x
+-- at x, the numerator, in lanes 0 to 4, and the denominator, in the lanes after them
+unfoldable pub numeratorAt : ℕ → ℕ → ℕ
+numeratorAt f x = evaluated 5 0 (lane f) x
 
-unfoldable pub lower : ℕ → ℕ → ℕ
-lower f x = evaluated 5 0 (λ m. lane f (5 + m)) x
+unfoldable pub denominatorAt : ℕ → ℕ → ℕ
+denominatorAt f x = evaluated 5 0 (λ m. lane f (5 + m)) x
 
--- their quotient, 0 where the second is 0, times the fifth power of x of which n factors are in it already
+-- their quotient, 0 where the denominator is 0, times what the fifth power of x has more than n factors
 unfoldable pub quotientAt : ℕ → ℕ → ℕ → ℕ
-quotientAt f n x = product (power x (5 - n)) (product (upper f x) (inverse (lower f x)))
+quotientAt f n x = product (power x (5 - n)) (product (numeratorAt f x) (inverse (denominatorAt f x)))
 
--- coefficient m of the first for the locator in the lanes of q and the sums from n on
-unfoldable pub upperOf : ℕ → List ℕ → ℕ → ℕ → ℕ
-upperOf q s n m = total 5 (λ k. product (lane q (suc (m + k))) (getD s (n + k) 0))
+-- coefficient m of the numerator, for the locator in the lanes of q and the sums from n on
+unfoldable pub numeratorOf : ℕ → List ℕ → ℕ → ℕ → ℕ
+numeratorOf q s n m = total 5 (λ k. product (lane q (suc (m + k))) (getD s (n + k) 0))
 
--- and of the second, the derivative
-unfoldable pub lowerOf : ℕ → ℕ → ℕ
-lowerOf q m = cond (eqb (m % 2) 0) (lane q (suc m)) 0
+-- and of the denominator, the locator's derivative
+unfoldable pub denominatorOf : ℕ → ℕ → ℕ
+denominatorOf q m = cond (eqb (m % 2) 0) (lane q (suc m)) 0
 
-pub record UpperIn (q : ℕ) (s : List ℕ) (n r : ℕ) : Type 0 where
+pub record NumeratorIn (q : ℕ) (s : List ℕ) (n r : ℕ) : Type 0 where
   pub below : r < 64 ^ 5
-  pub at : (m : ℕ) → m < 5 → lane r m ≡ upperOf q s n m
+  pub at : (m : ℕ) → m < 5 → lane r m ≡ numeratorOf q s n m
 
-pub record LowerIn (q r : ℕ) : Type 0 where
+pub record DenominatorIn (q r : ℕ) : Type 0 where
   pub below : r < 64 ^ 5
-  pub at : (m : ℕ) → m < 5 → lane r m ≡ lowerOf q m
+  pub at : (m : ℕ) → m < 5 → lane r m ≡ denominatorOf q m
 
-pub record BothIn (q : ℕ) (s : List ℕ) (n r : ℕ) : Type 0 where
-  pub above : (m : ℕ) → m < 5 → lane r m ≡ upperOf q s n m
-  pub under : (m : ℕ) → m < 5 → lane r (5 + m) ≡ lowerOf q m
+pub record FractionIn (q : ℕ) (s : List ℕ) (n r : ℕ) : Type 0 where
+  pub above : (m : ℕ) → m < 5 → lane r m ≡ numeratorOf q s n m
+  pub under : (m : ℕ) → m < 5 → lane r (5 + m) ≡ denominatorOf q m
 
--- coefficient m of the first in each of five lanes, and that of the second in each of the five after them
+-- coefficient m of the numerator in each of five lanes, and that of the denominator in each of the five after them
 pub record Spread (f m r : ℕ) : Type 0 where
   pub above : (j : ℕ) → j < 5 → lane r j ≡ lane f m
   pub under : (j : ℕ) → j < 5 → lane r (5 + j) ≡ lane f (5 + m)
 
 -- both at five places
 pub record BothAt (f x r : ℕ) : Type 0 where
-  pub above : (j : ℕ) → j < 5 → lane r j ≡ upper f (lane x j)
-  pub under : (j : ℕ) → j < 5 → lane r (5 + j) ≡ lower f (lane x j)
+  pub above : (j : ℕ) → j < 5 → lane r j ≡ numeratorAt f (lane x j)
+  pub under : (j : ℕ) → j < 5 → lane r (5 + j) ≡ denominatorAt f (lane x j)
 
 pub record InversesIn (d r : ℕ) : Type 0 where
   pub at : (j : ℕ) → j < 5 → lane r j ≡ inverse (lane d j)

@@ -11,7 +11,7 @@ ghost use Rattle.code.specs.Held.{eleven};
 ghost use Rattle.mender.specs.Found.{lone, OneError, RootFrom, Patterned, ElementsTo, Clear, Repairs, sixth};
 ghost use Rattle.mender.specs.Rows.{UnitRows, PivotRow, Multiples, RowsCleared, RowsFrom, FirstRow, Coefficients};
 ghost use Rattle.mender.specs.Inside.{Agree, Nothing};
-ghost use Rattle.mender.specs.Values.{Placed, PlacesFrom, QuotientsIn, QuotientsAhead, QuotientNext, BothAt, Spread, InversesIn, Raised, UpperIn, LowerIn, BothIn, Kills};
+ghost use Rattle.mender.specs.Values.{Placed, PlacesFrom, QuotientsIn, QuotientsAhead, QuotientNext, BothAt, Spread, InversesIn, Raised, NumeratorIn, DenominatorIn, FractionIn, Kills};
 use code::Eleven;
 
 // A word that was found, and how many of its characters are not 0, or how far it lies.
@@ -225,8 +225,8 @@ fn sixth_window(x: u64, s: Eleven) -> bool
     true
 }
 
-// The values at the roots of the locator p, the coefficients of a row that combines the first n windows to 0, place by place from 1 on: the place of
-// address 62 - l is α^l. No other place has a value.
+// The values at the roots of the locator p, the coefficients of a row that combines the first n windows to 0: the place of address 62 - l is α^l.
+// No other place has a value.
 fn values_at_roots(row: u64, p: [u8; 6], s: [u8; 11], n: usize) -> Pattern
     requires { ⌜ Coefficients row p ⌝ }
     requires { ⌜ Kills p s n ⌝ }
@@ -234,12 +234,12 @@ fn values_at_roots(row: u64, p: [u8; 6], s: [u8; 11], n: usize) -> Pattern
 {
     placed(
         planes::roots(p),
-        both_polynomials(row / FIVE_LANES % SIX_LANES, s, n),
+        fraction(row / FIVE_LANES % SIX_LANES, s, n),
         n,
     )
 }
 
-// A value at each root, and at no other place.
+// The value of the fraction f at each root, five at a time, and 0 at every other place.
 fn placed(roots: u64, f: u64, n: usize) -> Pattern
     requires { ⌜ n ≤ 5 ⌝ }
     ensures { λ r. ⌜ Placed roots f n r ⌝ }
@@ -267,7 +267,7 @@ fn placed(roots: u64, f: u64, n: usize) -> Pattern
     }
 }
 
-// The first set bit from a place on, or 63.
+// The first set bit from a place on, or 63: bit 63 is set to stop at.
 fn root_from(roots: u64, from: usize) -> usize
     requires { ⌜ from ≤ 63 ⌝ }
     ensures { λ r. ⌜ RootFrom roots from r ⌝ }
@@ -276,7 +276,7 @@ fn root_from(roots: u64, from: usize) -> usize
     from + u64::trailing_zeros(rest) as usize
 }
 
-// The values at the next roots from l on: those of the next five where none is left. A locator has no more than five.
+// The values at the next roots from l on: those of the next five where none is left. A locator that is not 0 has no more.
 fn looked_ahead(ahead: Ahead, f: u64, n: usize, roots: u64, l: usize) -> Ahead
     requires { ⌜ (n ≤ 5) × (l ≤ 63) ⌝ }
     requires { ⌜ QuotientsAhead f n roots l ahead ⌝ }
@@ -306,7 +306,7 @@ fn places_from(roots: u64, l: usize) -> u64
     x
 }
 
-// The values at five places: a quotient of two polynomials, and a power of the place for each window of five that is not combined to 0.
+// The values at five places: numerator by denominator, and once more times the place for each window of five that the locator may not combine to 0.
 fn quotients(f: u64, n: usize, x: u64) -> u64
     requires { ⌜ (n ≤ 5) × (x < 1073741824) ⌝ }
     ensures { λ r. ⌜ QuotientsIn f n x r ⌝ }
@@ -315,7 +315,7 @@ fn quotients(f: u64, n: usize, x: u64) -> u64
     raised(lanes::products(both, inverses(both / FIVE_LANES)), x, n)
 }
 
-// Two polynomials at five places.
+// Numerator and denominator at five places, side by side, from the highest coefficient down.
 fn both_at(f: u64, x: u64) -> u64
     requires { ⌜ x < 1073741824 ⌝ }
     ensures { λ r. ⌜ BothAt f x r ⌝ }
@@ -330,7 +330,7 @@ fn both_at(f: u64, x: u64) -> u64
     r
 }
 
-// Coefficient m of the one polynomial in five lanes, and of the other in five.
+// Coefficient m of the numerator in five lanes, and of the denominator in five.
 fn spread(f: u64, m: usize) -> u64
     requires { ⌜ m < 5 ⌝ }
     ensures { λ r. ⌜ Spread f m r ⌝ }
@@ -354,7 +354,7 @@ fn inverses(d: u64) -> u64
     r
 }
 
-// Five lanes, each times its place for each of the powers from n to 5.
+// Five lanes, each times its place to the power 5 - n.
 fn raised(v: u64, x: u64, n: usize) -> u64
     requires { ⌜ n ≤ 5 ⌝ }
     ensures { λ r. ⌜ Raised v x n r ⌝ }
@@ -368,18 +368,18 @@ fn raised(v: u64, x: u64, n: usize) -> u64
     r
 }
 
-// The two polynomials of the locator q, each in five lanes.
-fn both_polynomials(q: u64, s: [u8; 11], n: usize) -> u64
+// The fraction whose value at a root of the locator q is the error's: numerator and denominator, side by side.
+fn fraction(q: u64, s: [u8; 11], n: usize) -> u64
     requires { ⌜ n ≤ 5 ⌝ }
-    ensures { λ r. ⌜ BothIn q s n r ⌝ }
+    ensures { λ r. ⌜ FractionIn q s n r ⌝ }
 {
-    upper_polynomial(q, s, n) + lower_polynomial(q) * FIVE_LANES
+    numerator(q, s, n) + denominator(q) * FIVE_LANES
 }
 
-// The one of the locator q and the sums from n on.
-fn upper_polynomial(q: u64, s: [u8; 11], n: usize) -> u64
+// The numerator: its coefficient m has the locator's coefficients from m + 1 on, each times its turn's sum, of the sums from n on.
+fn numerator(q: u64, s: [u8; 11], n: usize) -> u64
     requires { ⌜ n ≤ 5 ⌝ }
-    ensures { λ r. ⌜ UpperIn q s n r ⌝ }
+    ensures { λ r. ⌜ NumeratorIn q s n r ⌝ }
 {
     let mut c: u64 = 0;
     let mut k: usize = 5;
@@ -390,9 +390,9 @@ fn upper_polynomial(q: u64, s: [u8; 11], n: usize) -> u64
     c % FIVE_LANES
 }
 
-// The locator's derivative: every second coefficient.
-fn lower_polynomial(q: u64) -> u64
-    ensures { λ r. ⌜ LowerIn q r ⌝ }
+// The denominator, the locator's derivative: every second coefficient.
+fn denominator(q: u64) -> u64
+    ensures { λ r. ⌜ DenominatorIn q r ⌝ }
 {
     q / 64 % 64 + q / 262144 % 64 * 4096 + q / 1073741824 % 64 * 16777216
 }

@@ -1,6 +1,6 @@
 // Rings: the starts at which a line lies within the radius, and reading the line at the one start.
 ghost use mathlib.Core.Path.{_≡_};
-ghost use mathlib.Core.List.{List, [], _∷_};
+ghost use mathlib.Core.List.{[], _∷_};
 ghost use Prim.Native.Nat.{_<_};
 ghost use lib.ListN.{length};
 ghost use Rattle.refusal.specs.Promise.{Tells};

@@ -186,16 +186,6 @@ unpacked-long h s p k u = u .long
 
 -- ---- the power sums of a word
 
-pub sums-held : (w s : List ℕ) (h : Eleven) → PowerSums w s → eleven h ≡ lowered s → PowerSums w (eleven h)
-unfolding lowered
-sums-held w s h p e =
-    record {
-      long = eleven-long h;
-      sum-at = λ k l.
-          ap (λ (t : List ℕ). getD t k 0) e ∙ listed-get (λ k. getD s k 0 % 64) 11 k l ∙ ap (λ (n : ℕ). n % 64) (p .sum-at k l)
-          ∙ mod-eq-of-lt (powerSum-lt (58 + k) w);
-    }
-
 -- S_0 set between the other ten, in lanes
 module _ (w : List ℕ) (r : PackedSums) (h : Packed w r) where
   f : ℕ → ℕ

@@ -11,7 +11,6 @@ use lib.Bits.{bitXor}
 use Rattle.refusal.specs.Promise.{Tells}
 use Rattle.refusal.proofs.Laws.{tells-yes, tells-no}
 use Rattle.field.specs.Field.{sum}
-use Rattle.field.proofs.Laws
 use Rattle.code.specs.Word.{added}
 use Rattle.code.proofs.Words.{length-added, added-get}
 use Rattle.mender.specs.Inside.{Agree}

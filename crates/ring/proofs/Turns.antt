@@ -12,7 +12,6 @@ use borrow.Author.Count.{below-none, below-more}
 use borrow.Author.Tests.{lt-ltb, le-ltb}
 use Rattle.numbers.proofs.Cases.{le-or-lt}
 use Rattle.refusal.specs.Promise.{Tells}
-use Rattle.field.proofs.Laws
 use Rattle.code.specs.Word.{added}
 use Rattle.code.specs.Inside.{PowerSums}
 use Rattle.code.specs.Held.{eleven}

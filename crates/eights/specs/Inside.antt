@@ -1,4 +1,4 @@
--- Numbers that hold eight bytes, the first lowest: what the functions inside this crate promise each other; no public promise rests on it.
+-- Numbers that hold eight bytes, the first lowest: what the inner functions of this crate and of the block promise each other; no entry point's promise rests on it.
 use mathlib.Core.Path.{_≡_}
 use mathlib.Core.List.{List, [], _∷_}
 use Prim.Native.Nat.{ℕ, _+_, _*_, _/_, _%_, _^_, _<_}

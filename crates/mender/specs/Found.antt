@@ -1,4 +1,4 @@
--- What the mender's quick ways promise: one error told from the sums, and the values at the roots alone.
+-- What the mender's functions on packed sums promise: no error and one told from the sums, the values at the roots alone, the repaired word, the sixth window.
 use mathlib.Core.Path.{_≡_}
 use mathlib.Core.Bool.{true, false}
 use mathlib.Core.List.{List}

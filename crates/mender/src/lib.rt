@@ -457,7 +457,7 @@ fn no_single() -> Single
     }
 }
 
-// The rows once more, each packed in one number: lanes 0 to 4 have what the row combines windows 0 to 4 to, and lanes 5 to 10 its coefficients.
+// A row of the elimination is packed in one number: lanes 0 to 4 have what the row combines windows 0 to 4 to, and lanes 5 to 10 its coefficients.
 
 // The least number that five lanes do not hold, and six, and ten.
 const FIVE_LANES: u64 = 1073741824;

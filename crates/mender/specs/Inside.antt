@@ -51,17 +51,6 @@ pub record Spanned (s : List ℕ) (e n : ℕ) (m : List (List ℕ)) : Type 0 whe
   pub own : (i : ℕ) → ((k : ℕ) → at m i k ≡ 0) ⊎ (at m i i ≡ 1)
   pub small : (i k : ℕ) → at m i k < 64
 
--- the first row that window n does not combine to 0, or 6
-pub record Pivot (m : List (List ℕ)) (s : List ℕ) (n r : ℕ) : Type 0 where
-  pub small : r ≤ 6
-  pub before : (i : ℕ) → i < r → mixed (at m i) s n ≡ 0
-  pub here : r < 6 → 0 < mixed (at m r) s n
-
--- a row and f times another
-pub record RowAdded (row : List ℕ) (f : ℕ) (other r : List ℕ) : Type 0 where
-  pub long : length r ≡ 6
-  pub entry : (k : ℕ) → getD r k 0 ≡ sum (getD row k 0) (product f (getD other k 0))
-
 -- each row and the multiple of row p with which it combines window n to 0
 pub record Stepped (s : List ℕ) (n p : ℕ) (m r : List (List ℕ)) : Type 0 where
   pub long : length r ≡ 6
@@ -69,12 +58,6 @@ pub record Stepped (s : List ℕ) (n p : ℕ) (m r : List (List ℕ)) : Type 0 w
   pub pivot : 0 < mixed (at m p) s n
   pub lowest : (i : ℕ) → i < p → mixed (at m i) s n ≡ 0
   pub row : (i k : ℕ) → at r i k ≡ sum (at m i k) (product (product (mixed (at m i) s n) (inverse (mixed (at m p) s n))) (at m p k))
-
--- the first row that is not 0, or 6, told by the entry at its own degree
-pub record First (m : List (List ℕ)) (r : ℕ) : Type 0 where
-  pub small : r ≤ 6
-  pub before : (i : ℕ) → i < r → at m i i ≡ 0
-  pub here : r < 6 → at m r r ≡ 0 → ⊥
 
 -- coefficients that are elements
 pub record Small (p : List ℕ) : Type 0 where

@@ -51,11 +51,11 @@ any-bytes file old new (R.Text n) h p = (n, refl)
 any-bytes file old new (R.Refused why) h (inl a, q) = absurd (refusal-positive why (a .1))
 any-bytes file old new (R.Refused why) h (inr a, q) = absurd (a .0 h)
 
--- ---- the longest
+-- ---- how long a report and a file can be
 
 -- the report of a file of bytes has at most 13,807 bytes
-pub longest-report : (file text : List ℕ) → Bytes file → Report file text → length text ≤ 13807
-longest-report file text b p = report-length p b
+pub report-at-most : (file text : List ℕ) → Bytes file → Report file text → length text ≤ 13807
+report-at-most file text b p = report-length p b
 
 -- a file that is all used has at most 97,414 bytes
 pub longest-used : (t : ℕ) (file lines counts : List ℕ) → Bytes file → Sections t kinds file lines counts (rest []) → length (t ∷ file) ≤ 97414

@@ -33,13 +33,13 @@ pub data Report : List ℕ → List ℕ → Type 0 where
   empty : Report [] (header ++ line wordCut [])
   tray : {t : ℕ} {file lines counts : List ℕ} {left : Left} → Sections t kinds file lines counts left → Report (t ∷ file) (header ++ (lines ++ closing counts left))
 
--- ---- the longest
+-- ---- room for any report, every field at its widest, and the longest file
 
 -- a space and so many digits
 abbrev pub fieldRoom : ℕ → ℕ
 fieldRoom digits = 1 + digits
 
--- a kind; an item number up to 254; an answer up to 12; a distance or a start, up to 125; a number, a distance or a row count, up to 4095; the line end
+-- a kind; an item number up to 254; an answer of two digits; a distance or a start, up to 125; a number, a distance or a row count, up to 4095; the line end
 abbrev pub itemRoom : ℕ
 itemRoom = 1 + fieldRoom 3 + fieldRoom 2 + fieldRoom 3 + fieldRoom 4 + 1
 

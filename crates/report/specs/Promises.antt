@@ -15,7 +15,7 @@ abbrev pub reportNumbers : Reported → List ℕ
 reportNumbers (R.Text length) = 0 ∷ length ∷ []
 reportNumbers (R.Refused r) = numberOf r ∷ 0 ∷ []
 
--- the report asks for a buffer that has room for the longest
+-- the report asks for a buffer that has room for any
 abbrev pub reportTests : ℕ → List Test
 reportTests room = (reportRoom ≤ room else OutputLength) ∷ []
 

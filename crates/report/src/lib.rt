@@ -17,7 +17,7 @@ use line::Wanted;
 use refusal::Refusal;
 use ring::RingReading;
 
-// The room that the longest report takes: a header of 21 bytes, three times 255 lines of at most 18, and a closing line of at most 16.
+// Room for any report: a header of 21 bytes, three times 255 lines of at most 18, and a closing line of at most 16.
 pub const ROOM: usize = 13807;
 
 // The longest file that is all used: the radius, and after their counts 255 lines, 255 rings and 255 blocks, each a count and 255 rows.

@@ -75,6 +75,7 @@ struct Checked {
 }
 
 extern "C" {
+    fn film_version() -> u32;
     fn film_sum(u: u8, v: u8) -> Element;
     fn film_product(u: u8, v: u8) -> Element;
     fn film_quotient(u: u8, v: u8) -> Element;
@@ -89,8 +90,11 @@ extern "C" {
     fn film_checks(taken: Register) -> Checked;
 }
 
+/// The version that the library has to tell. tools/tables writes it from version.txt.
+const VERSION: u32 = 1000000;
+
 /// Each call, and every answer that it can give.
-const ANSWERS: [(&str, &[usize]); 12] = [
+const ANSWERS: [(&str, &[u8]); 12] = [
     ("sum", &[0, 2]),
     ("product", &[0, 2]),
     ("quotient", &[0, 2]),

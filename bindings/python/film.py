@@ -18,8 +18,12 @@ import os
 import pathlib
 from typing import NamedTuple, Optional
 
+# tools/tables writes this from version.txt, and the refusals below from refusals.txt.
+__version__ = "1.0.0"
+
 _u8 = ctypes.c_uint8
 _u16 = ctypes.c_uint16
+_u32 = ctypes.c_uint32
 
 # The numbered answers, as the paper gives them; 0 is a success.
 REFUSALS = {
@@ -42,7 +46,7 @@ class Refused(Exception):
     """A call was refused; `number` is the paper's number of the reason."""
 
     def __init__(self, number):
-        super().__init__(f"refused ({number}): {REFUSALS[number]}")
+        super().__init__(f"refused ({number}): {REFUSALS.get(number, 'a reason that this binding does not know')}")
         self.number = number
 
 
@@ -102,9 +106,22 @@ class _Checked(ctypes.Structure):
     _fields_ = [("checks", _u8 * 11), ("answer", _u8)]
 
 
-def _load():
-    beside = pathlib.Path(__file__).resolve().parents[2] / "target" / "film" / "libfilm.so"
-    library = ctypes.CDLL(os.environ.get("FILM_LIBRARY", str(beside)))
+def _major_of(library):
+    """The major version of a library that was loaded; none, where it tells no version."""
+    try:
+        told = library.film_version
+    except AttributeError:
+        return None
+    told.argtypes, told.restype = [], _u32
+    return told() // 1000000
+
+
+def _load(path):
+    """The library at a path, with the types of its functions. One of another major version is not taken: its structs may be laid out otherwise."""
+    library = ctypes.CDLL(path)
+    major, own = _major_of(library), int(__version__.split(".")[0])
+    if major != own:
+        raise ImportError(f"{path} has the major version {major}, and this binding is for {own}")
     given = [ctypes.c_char_p, ctypes.c_size_t]
     output = [ctypes.POINTER(_u8), ctypes.c_size_t]
     for name, takes, gives in [
@@ -126,7 +143,8 @@ def _load():
     return library
 
 
-_library = _load()
+_beside = pathlib.Path(__file__).resolve().parents[2] / "target" / "film" / "libfilm.so"
+_library = _load(os.environ.get("FILM_LIBRARY", str(_beside)))
 
 
 def _bounded(number, most):
@@ -164,6 +182,11 @@ def _value(result):
     if result.answer:
         raise Refused(result.answer)
     return result.value
+
+
+def version() -> int:
+    """The version of the library that was loaded: a million times the major number, a thousand times the minor, and the patch."""
+    return _library.film_version()
 
 
 def sum(u, v):

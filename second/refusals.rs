@@ -1,5 +1,8 @@
 //! The numbers of the refusals, by name. tools/tables writes them from refusals.txt.
 
+// A number that no rule here answers is no mistake.
+#![allow(dead_code)]
+
 /// A line or ring is not 63 long, or text to be encoded is not 50 long.
 pub const INPUT_LENGTH: u8 = 1;
 /// A character (a register's too) or field operand is over 63, or a data row over 127.

@@ -140,7 +140,7 @@ PARTS = [
     ("bindings/rust/src/refusal.rs", r"        match self \{\n", "            Refusal::Unknown", each("            Refusal::{name} => {number},\n")),
     ("bindings/rust/src/refusal.rs", r"let why = match self \{\n", "            Refusal::Unknown", each('            Refusal::{name} => "{given}",\n')),
     ("bindings/python/film.py", r"\nREFUSALS = \{\n", "}", each('    {number}: "{given}",\n')),
-    ("second/refusals.rs", r"refusals.txt\.\n\n", None, each("/// {sentence}\npub const {upper}: u8 = {number};\n")),
+    ("second/refusals.rs", r"#!\[allow\(dead_code\)\]\n\n", None, each("/// {sentence}\npub const {upper}: u8 = {number};\n")),
     ("docs/HANDBOOK.md", r"\n\| 0 \| Done.*\n", "\n\n", each("| {number} | {sentence} | {todo} |", "\n")),
     ("include/film.h", r"#define FILM_VERSION_MAJOR ", "\n", versioned("{v.major}")),
     ("include/film.h", r"#define FILM_VERSION_MINOR ", "\n", versioned("{v.minor}")),

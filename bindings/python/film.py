@@ -10,7 +10,8 @@ A character is a byte from 0 to 63, and a line is 63 of them.
     59
 
 Where an output `out` is handed in (a bytearray), it is written in place of a new one; in a refusal it is as it was. The shared library is
-the one that FILM_LIBRARY names, or target/film/libfilm.so of this checkout, which tools/build-library makes.
+the one that FILM_LIBRARY names, or target/film/libfilm.so of this checkout, which tools/build-library makes; one of another major version is
+an ImportError.
 """
 
 import ctypes
@@ -106,22 +107,21 @@ class _Checked(ctypes.Structure):
     _fields_ = [("checks", _u8 * 11), ("answer", _u8)]
 
 
-def _major_of(library):
-    """The major version of a library that was loaded; none, where it tells no version."""
-    try:
-        told = library.film_version
-    except AttributeError:
-        return None
-    told.argtypes, told.restype = [], _u32
-    return told() // 1000000
+def _check_version(library, path):
+    """A library of another major version is not taken: its structs may be laid out otherwise."""
+    own = int(__version__.split(".")[0])
+    if not hasattr(library, "film_version"):
+        raise ImportError(f"{path} tells no version; this binding is for major version {own}")
+    library.film_version.argtypes, library.film_version.restype = [], _u32
+    major = library.film_version() // 1000000
+    if major != own:
+        raise ImportError(f"{path} is of major version {major}; this binding is for major version {own}")
 
 
 def _load(path):
-    """The library at a path, with the types of its functions. One of another major version is not taken: its structs may be laid out otherwise."""
+    """The library at a path, with the types of its functions."""
     library = ctypes.CDLL(path)
-    major, own = _major_of(library), int(__version__.split(".")[0])
-    if major != own:
-        raise ImportError(f"{path} has the major version {major}, and this binding is for {own}")
+    _check_version(library, path)
     given = [ctypes.c_char_p, ctypes.c_size_t]
     output = [ctypes.POINTER(_u8), ctypes.c_size_t]
     for name, takes, gives in [

@@ -141,18 +141,18 @@ class Tests(unittest.TestCase):
     def test_version(self):
         major, minor, patch = map(int, film.__version__.split("."))
         self.assertEqual(film.version(), 1000000 * major + 1000 * minor + patch)
-        self.assertEqual(film._major_of(film._library), major)
 
     def test_other_libraries(self):
         """A library of another major version is not taken, and neither is one that tells none."""
+        other = film.version() + 1000000
         with tempfile.TemporaryDirectory() as folder:
-            for told, source in (
-                (film.version() // 1000000 + 1, f"unsigned film_version(void) {{ return {film.version() + 1000000}; }}"),
-                (None, "int other;"),
+            for says, source in (
+                (f"is of major version {other // 1000000};", f"unsigned film_version(void) {{ return {other}; }}"),
+                ("tells no version;", "int other;"),
             ):
-                library = pathlib.Path(folder) / f"{told}.so"
+                library = pathlib.Path(folder) / f"{len(says)}.so"
                 subprocess.run(["gcc", "-shared", "-fPIC", "-x", "c", "-", "-o", library], input=source.encode(), check=True)
-                with self.assertRaisesRegex(ImportError, f"has the major version {told}, and this binding is for"):
+                with self.assertRaisesRegex(ImportError, says):
                     film._load(str(library))
 
     def test_documentation(self):

@@ -1,4 +1,4 @@
-// The library that other programs link: each function hands its call to the entry point of that name and gives back the paper's numbers.
+// The library that other programs link: each function hands its call to the entry point of that name and gives back the paper's numbers; one tells the version.
 ghost use mathlib.Core.Path.{_≡_};
 ghost use mathlib.Core.List.{[], _∷_};
 ghost use Rattle.field.specs.Promises as Field;

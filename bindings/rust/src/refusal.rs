@@ -72,8 +72,11 @@ impl Refusal {
 
     /// The refusal that an answer of the library tells; none, where the answer is 0.
     pub fn of_answer(answer: u8) -> Option<Refusal> {
+        if answer == 0 {
+            return None;
+        }
         let known = Refusal::ALL.iter().copied().find(|refusal| refusal.number() == answer);
-        (answer != 0).then_some(known.unwrap_or(Refusal::Unknown(answer)))
+        Some(known.unwrap_or(Refusal::Unknown(answer)))
     }
 }
 

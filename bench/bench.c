@@ -79,7 +79,7 @@ static void fec_read(const uint8_t *input, uint8_t radius, reply *r) {
     memcpy(r->out, input, 63);
     int mended = fec_mend(r->out);
     if (mended < 0 || mended > radius) {
-        r->answer = 6, r->distance = 0, r->number = 0, r->length = 0;
+        r->answer = FILM_NO_LINE, r->distance = 0, r->number = 0, r->length = 0;
         return;
     }
     r->answer = 0, r->distance = (uint8_t)mended, r->number = (uint16_t)(r->out[50] * 64 + r->out[51]), r->length = 63;
@@ -109,7 +109,7 @@ static void plain_block(const uint8_t *input, uint8_t radius, reply *r) {
             odd++, row = i;
     }
     int faults = __builtin_popcount(columns);
-    r->answer = (odd == 0 && faults == 0) || (odd == 1 && faults == 1) ? 0 : 9;
+    r->answer = (odd == 0 && faults == 0) || (odd == 1 && faults == 1) ? FILM_DONE : FILM_NO_BLOCK;
     r->distance = 0, r->number = 0, r->length = 0;
     if (r->answer == 0) {
         memcpy(r->out, input, 9);
@@ -211,7 +211,7 @@ static void make_word(const row *w, uint8_t *word) {
             memcpy(word, r.out, 63);
             damage(word, w->wrong);
             fec_read(word, 5, &r);
-        } while (r.answer != (w->wrong > 5 ? 6 : 0)); /* six wrong characters may lie near another line: not here */
+        } while (r.answer != (w->wrong > 5 ? FILM_NO_LINE : FILM_DONE)); /* six wrong characters may lie near another line: not here */
         return;
     case RING: {
         fec_encode(word, 0, &r);

@@ -14,6 +14,8 @@ mod field;
 mod line;
 #[path = "../second/random.rs"]
 mod random;
+#[path = "../second/refusals.rs"]
+mod refusals;
 #[path = "../second/ring.rs"]
 mod ring;
 

@@ -27,8 +27,9 @@ static const char *const names[CALLS] = {"sum", "product", "quotient", "encode_l
                                          "list_ring", "read_ring", "encode_block", "read_block"};
 
 /* Bit n stands for answer n. */
-#define CAN(n) (1u << (n))
-static const unsigned can_give[CALLS] = {
+#define CAN(n) (UINT64_C(1) << (n))
+_Static_assert(FILM_LAST_REFUSAL < 64, "an answer for each bit");
+static const uint64_t can_give[CALLS] = {
     CAN(0) | CAN(2),
     CAN(0) | CAN(2),
     CAN(0) | CAN(2),
@@ -43,17 +44,17 @@ static const unsigned can_give[CALLS] = {
     CAN(0) | CAN(8) | CAN(5) | CAN(9),
 };
 
-static unsigned long given[CALLS][13];
+static unsigned long given[CALLS][FILM_LAST_REFUSAL + 1];
 
 static void gave(int call, int answer) {
-    HOLDS(answer <= 12 && (can_give[call] >> answer & 1));
+    HOLDS(answer <= FILM_LAST_REFUSAL && (can_give[call] >> answer & 1));
     given[call][answer]++;
 }
 
 static void print_given(void) {
     for (int call = 0; call < CALLS; call++) {
         fprintf(stderr, "answers %s:", names[call]);
-        for (int n = 0; n <= 12; n++)
+        for (int n = 0; n <= FILM_LAST_REFUSAL; n++)
             if (can_give[call] >> n & 1)
                 fprintf(stderr, " %d %lu,", n, given[call][n]);
         fprintf(stderr, "\n");
@@ -470,6 +471,7 @@ static void block_calls(void) {
 
 int LLVMFuzzerInitialize(int *argc, char ***argv) {
     (void)argc, (void)argv;
+    HOLDS(film_version() == FILM_VERSION);
     uint8_t x = 1;
     for (int e = 0; e < 63; e++) {
         power[e] = x;

@@ -6,8 +6,8 @@
  * NULL. An output must not overlap an input. Nothing else is asked of a caller: any lengths, any bytes and any numbers
  * are taken and answered.
  *
- * Every function answers 0 when it is done, and else one of the refusals below. A refusal's other fields are 0, and the
- * output is as it was. Nothing is kept between calls, so any number of threads may call at once.
+ * Every function but film_version answers 0 when it is done, and else one of the refusals below. A refusal's other fields
+ * are 0, and the output is as it was. Nothing is kept between calls, so any number of threads may call at once.
  *
  * A character is a byte from 0 to 63. A line is 63 characters: addresses 0 to 49 hold text, 50 and 51 the high and the
  * low six bits of the line number, 52 to 62 checks. The distance of two words is the count of addresses where they
@@ -22,7 +22,19 @@
 extern "C" {
 #endif
 
-/* ---- Numbered answers. Each is given then and at no other time, in the order that each function states. */
+/* ---- The version of this header. tools/tables writes its three numbers from version.txt. */
+
+#define FILM_VERSION_MAJOR 1
+#define FILM_VERSION_MINOR 0
+#define FILM_VERSION_PATCH 0
+#define FILM_VERSION (1000000 * FILM_VERSION_MAJOR + 1000 * FILM_VERSION_MINOR + FILM_VERSION_PATCH)
+
+/* The version of the library that is linked, as FILM_VERSION writes it: a program that was compiled with another header
+ * can tell. Where the major numbers differ, structs or answers do. */
+uint32_t film_version(void);
+
+/* ---- Numbered answers. Each is given then and at no other time, in the order that each function states. tools/tables
+ * writes them from refusals.txt. */
 
 enum {
     FILM_DONE = 0,
@@ -36,8 +48,9 @@ enum {
     FILM_ROW_COUNT = 8,       /* block rows outside 2..64, or data rows outside 1..63 */
     FILM_NO_BLOCK = 9,        /* no proper block within one bit */
     FILM_MANY_STARTS = 10,    /* ring reading: two or more entries in the list */
-    FILM_REGISTER_FULL = 11,  /* a step of a register that holds 52 characters, or anything of one whose count is above 52 */
-    FILM_REGISTER_SHORT = 12  /* register holds fewer than 52 */
+    FILM_REGISTER_FULL = 11,  /* a step is asked of a register that holds 52 characters, or anything of one whose count is above 52 */
+    FILM_REGISTER_SHORT = 12, /* register holds fewer than 52 */
+    FILM_LAST_REFUSAL = 12    /* the highest of these numbers */
 };
 
 /* ---- Lengths, in bytes. */

@@ -5,6 +5,7 @@
 //! brackets; an output that is left alone has 170 in every byte.
 
 use crate::random::Random;
+use crate::refusals;
 
 const UNTOUCHED: u8 = 170;
 
@@ -52,16 +53,16 @@ type Answer = (u8, u8, Vec<u8>);
 pub fn read(rows: &[u8], room: usize) -> Answer {
     let refused = |number| (number, 0, vec![UNTOUCHED; room]);
     if rows.len() < 2 || rows.len() > 64 {
-        return refused(8);
+        return refused(refusals::ROW_COUNT);
     }
     if room != rows.len() {
-        return refused(5);
+        return refused(refusals::OUTPUT_LENGTH);
     }
     let mut found = near(rows);
     assert!(found.len() <= 1, "two proper blocks within one bit");
     match found.pop() {
         Some((distance, block)) => (0, distance, block),
-        None => refused(9),
+        None => refused(refusals::NO_BLOCK),
     }
 }
 
@@ -83,13 +84,13 @@ pub fn encoded(data: &[u8]) -> Vec<u8> {
 pub fn encode(data: &[u8], room: usize) -> Answer {
     let refused = |number| (number, 0, vec![UNTOUCHED; room]);
     if data.is_empty() || data.len() > 63 {
-        return refused(8);
+        return refused(refusals::ROW_COUNT);
     }
     if room != data.len() + 1 {
-        return refused(5);
+        return refused(refusals::OUTPUT_LENGTH);
     }
     if data.iter().any(|&row| row > 127) {
-        return refused(2);
+        return refused(refusals::VALUE_OVER);
     }
     (0, 0, encoded(data))
 }

@@ -7,6 +7,7 @@
 
 use crate::field::{log, powers, product};
 use crate::random::Random;
+use crate::refusals;
 use std::fmt::Write;
 
 const UNTOUCHED: u8 = 170;
@@ -83,16 +84,16 @@ fn information(text: &[u8], number: u16) -> Vec<u8> {
 pub fn encode(text: &[u8], number: u16, room: usize) -> (u8, Vec<u8>) {
     let refused = |answer| (answer, vec![UNTOUCHED; room]);
     if text.len() != 50 {
-        return refused(1);
+        return refused(refusals::INPUT_LENGTH);
     }
     if room != 63 {
-        return refused(5);
+        return refused(refusals::OUTPUT_LENGTH);
     }
     if text.iter().any(|&c| c > 63) {
-        return refused(2);
+        return refused(refusals::VALUE_OVER);
     }
     if number > 4095 {
-        return refused(4);
+        return refused(refusals::NUMBER_OVER);
     }
     let mut word = information(text, number);
     let rest = remainder(&word);
@@ -112,10 +113,10 @@ pub struct Register {
 impl Register {
     pub fn step(&mut self, c: u8) -> u8 {
         if self.count >= 52 {
-            return 11;
+            return refusals::REGISTER_FULL;
         }
         if c > 63 || self.held.iter().any(|&h| h > 63) {
-            return 2;
+            return refusals::VALUE_OVER;
         }
         let values: Vec<u8> = roots().iter().map(|&x| product(value(&self.held, x), x) ^ product(c, power(x, 11))).collect();
         self.held = interpolated(&values);
@@ -126,13 +127,13 @@ impl Register {
     pub fn checks(&self) -> (u8, Vec<u8>) {
         let refused = |answer| (answer, vec![0; 11]);
         if self.count > 52 {
-            return refused(11);
+            return refused(refusals::REGISTER_FULL);
         }
         if self.count < 52 {
-            return refused(12);
+            return refused(refusals::REGISTER_SHORT);
         }
         if self.held.iter().any(|&h| h > 63) {
-            return refused(2);
+            return refused(refusals::VALUE_OVER);
         }
         (0, marked(&self.held))
     }

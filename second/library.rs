@@ -14,11 +14,13 @@ mod encoder;
 mod field;
 mod line;
 mod random;
+mod refusals;
 mod ring;
 
 use code::{added, marks, with_errors, Code};
 use line::{number, random_addresses, random_errors, random_line};
 use random::Random;
+use refusals::*;
 use std::collections::BTreeMap;
 use std::fmt::Debug;
 use std::process::exit;
@@ -75,6 +77,7 @@ struct Checked {
 }
 
 extern "C" {
+    fn film_version() -> u32;
     fn film_sum(u: u8, v: u8) -> Element;
     fn film_product(u: u8, v: u8) -> Element;
     fn film_quotient(u: u8, v: u8) -> Element;
@@ -89,20 +92,23 @@ extern "C" {
     fn film_checks(taken: Register) -> Checked;
 }
 
+/// The version that the library has to tell. tools/tables writes it from version.txt.
+const VERSION: u32 = 1000000;
+
 /// Each call, and every answer that it can give.
-const ANSWERS: [(&str, &[usize]); 12] = [
-    ("sum", &[0, 2]),
-    ("product", &[0, 2]),
-    ("quotient", &[0, 2]),
-    ("encode_line", &[0, 1, 2, 4, 5]),
-    ("read_line", &[0, 1, 2, 3, 5, 6]),
-    ("read_line_wanted", &[0, 1, 2, 3, 4, 5, 6, 7]),
-    ("list_ring", &[0, 1, 2, 3, 5]),
-    ("read_ring", &[0, 1, 2, 3, 5, 6, 10]),
-    ("encode_block", &[0, 2, 5, 8]),
-    ("read_block", &[0, 5, 8, 9]),
-    ("step", &[0, 2, 11]),
-    ("checks", &[0, 2, 11, 12]),
+const ANSWERS: [(&str, &[u8]); 12] = [
+    ("sum", &[0, VALUE_OVER]),
+    ("product", &[0, VALUE_OVER]),
+    ("quotient", &[0, VALUE_OVER]),
+    ("encode_line", &[0, INPUT_LENGTH, VALUE_OVER, NUMBER_OVER, OUTPUT_LENGTH]),
+    ("read_line", &[0, INPUT_LENGTH, VALUE_OVER, RADIUS_OVER, OUTPUT_LENGTH, NO_LINE]),
+    ("read_line_wanted", &[0, INPUT_LENGTH, VALUE_OVER, RADIUS_OVER, NUMBER_OVER, OUTPUT_LENGTH, NO_LINE, OTHER_NUMBER]),
+    ("list_ring", &[0, INPUT_LENGTH, VALUE_OVER, RADIUS_OVER, OUTPUT_LENGTH]),
+    ("read_ring", &[0, INPUT_LENGTH, VALUE_OVER, RADIUS_OVER, OUTPUT_LENGTH, NO_LINE, MANY_STARTS]),
+    ("encode_block", &[0, VALUE_OVER, OUTPUT_LENGTH, ROW_COUNT]),
+    ("read_block", &[0, OUTPUT_LENGTH, ROW_COUNT, NO_BLOCK]),
+    ("step", &[0, VALUE_OVER, REGISTER_FULL]),
+    ("checks", &[0, VALUE_OVER, REGISTER_FULL, REGISTER_SHORT]),
 ];
 
 const UNTOUCHED: u8 = 170;
@@ -241,7 +247,7 @@ impl Comparison {
         for (name, library, second) in operations {
             for (u, v) in (0..=255).flat_map(|u| (0..=255).map(move |v| (u, v))) {
                 let r = unsafe { library(u, v) };
-                let due = if u > 63 || v > 63 { (vec![2], 0) } else { (vec![0], second(u, v)) };
+                let due = if u > 63 || v > 63 { (vec![VALUE_OVER as usize], 0) } else { (vec![0], second(u, v)) };
                 self.hold(name, &(u, v), (vec![r.answer as usize], r.value), due);
             }
         }
@@ -403,6 +409,11 @@ impl Comparison {
 fn main() {
     let numbers: Vec<u64> = std::env::args().skip(1).map(|word| word.parse().expect("library ROUNDS [SEED]")).collect();
     let (rounds, seed) = (numbers.first().copied().unwrap_or(1000), numbers.get(1).copied().unwrap_or(1));
+    let version = unsafe { film_version() };
+    if version != VERSION {
+        println!("version differs\nlibrary {version}\nsecond  {VERSION}");
+        exit(1);
+    }
     let mut comparison = Comparison { code: Code::new(), random: Random::new(seed), given: BTreeMap::new() };
     comparison.operands();
     comparison.lengths();
@@ -416,9 +427,9 @@ fn main() {
     }
     let mut missing = false;
     for (call, answers) in ANSWERS {
-        let counts: Vec<String> = answers.iter().map(|&a| format!("{a}: {}", comparison.given.get(&(call, a)).unwrap_or(&0))).collect();
+        let counts: Vec<String> = answers.iter().map(|&a| format!("{a}: {}", comparison.given.get(&(call, a as usize)).unwrap_or(&0))).collect();
         println!("{call}: {}", counts.join(", "));
-        missing |= answers.iter().any(|&a| !comparison.given.contains_key(&(call, a)));
+        missing |= answers.iter().any(|&a| !comparison.given.contains_key(&(call, a as usize)));
     }
     let verdict = if missing { "and an answer that no call gave" } else { "no difference" };
     println!("{} calls of the library, {verdict}", comparison.given.values().sum::<u64>());

@@ -7,6 +7,7 @@
 
 use crate::code::{added, distance, marks, with_errors, Code};
 use crate::random::Random;
+use crate::refusals;
 
 const UNTOUCHED: u8 = 170;
 
@@ -20,25 +21,25 @@ type Answer = (u8, u16, usize, Vec<u8>);
 pub fn read(code: &Code, word: &[u8], radius: u8, wanted: Option<u16>, room: usize) -> Answer {
     let refused = |answer| (answer, 0, 0, vec![UNTOUCHED; room]);
     if word.len() != 63 {
-        return refused(1);
+        return refused(refusals::INPUT_LENGTH);
     }
     if room != 63 {
-        return refused(5);
+        return refused(refusals::OUTPUT_LENGTH);
     }
     if word.iter().any(|&c| c > 63) {
-        return refused(2);
+        return refused(refusals::VALUE_OVER);
     }
     if radius > 5 {
-        return refused(3);
+        return refused(refusals::RADIUS_OVER);
     }
     if wanted.is_some_and(|n| n > 4095) {
-        return refused(4);
+        return refused(refusals::NUMBER_OVER);
     }
     let Some(line) = code.nearest(word).filter(|line| distance(word, line) <= radius as usize) else {
-        return refused(6);
+        return refused(refusals::NO_LINE);
     };
     if wanted.is_some_and(|n| n != number(&line)) {
-        return refused(7);
+        return refused(refusals::OTHER_NUMBER);
     }
     (0, number(&line), distance(word, &line), line)
 }

@@ -18,6 +18,7 @@ mod encoder;
 mod field;
 mod line;
 mod random;
+mod refusals;
 mod ring;
 mod sheet;
 mod tray;

@@ -8,6 +8,7 @@
 use crate::code::{added, distance, marks, with_errors, Code};
 use crate::line::{number, random_addresses, random_errors, random_line};
 use crate::random::Random;
+use crate::refusals;
 
 const UNTOUCHED: u8 = 170;
 
@@ -47,16 +48,16 @@ fn entries(code: &Code, ring: &[u8], radius: usize) -> Vec<Entry> {
 /// The refusal for the ring, the radius and the length of the output.
 fn refusal(ring: &[u8], radius: u8, room: usize, stated: usize) -> Option<u8> {
     if ring.len() != 63 {
-        return Some(1);
+        return Some(refusals::INPUT_LENGTH);
     }
     if room != stated {
-        return Some(5);
+        return Some(refusals::OUTPUT_LENGTH);
     }
     if ring.iter().any(|&c| c > 63) {
-        return Some(2);
+        return Some(refusals::VALUE_OVER);
     }
     if radius > 5 {
-        return Some(3);
+        return Some(refusals::RADIUS_OVER);
     }
     None
 }
@@ -82,9 +83,9 @@ pub fn read(code: &Code, ring: &[u8], radius: u8, room: usize) -> Answer {
         return refused(number);
     }
     match &entries(code, ring, radius as usize)[..] {
-        [] => refused(6),
+        [] => refused(refusals::NO_LINE),
         [(start, line)] => (vec![0, *start, number(line) as usize, distance(line, &word_at(ring, *start))], line.clone()),
-        _ => refused(10),
+        _ => refused(refusals::MANY_STARTS),
     }
 }
 

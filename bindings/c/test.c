@@ -197,6 +197,7 @@ static void registers(void) {
 
 int main(void) {
     EXPECT(sizeof(film_line) == 4 && sizeof(film_ring) == 6 && sizeof(film_register) == 12 && sizeof(film_stepped) == 13 && sizeof(film_checked) == 12);
+    EXPECT(film_version() == FILM_VERSION && FILM_VERSION / 1000000 == FILM_VERSION_MAJOR);
     EXPECT(film_encode_line(zeros, 50, 0, z, 63) == FILM_DONE && z[52] == 32 && z[55] == 8 && z[62] == 1);
     field();
     encoding();

@@ -10,7 +10,8 @@ A character is a byte from 0 to 63, and a line is 63 of them.
     59
 
 Where an output `out` is handed in (a bytearray), it is written in place of a new one; in a refusal it is as it was. The shared library is
-the one that FILM_LIBRARY names, or target/film/libfilm.so of this checkout, which tools/build-library makes.
+the one that FILM_LIBRARY names, or target/film/libfilm.so of this checkout, which tools/build-library makes; one of another major version is
+an ImportError.
 """
 
 import ctypes
@@ -18,8 +19,12 @@ import os
 import pathlib
 from typing import NamedTuple, Optional
 
+# tools/tables writes this from version.txt, and the refusals below from refusals.txt.
+__version__ = "1.0.0"
+
 _u8 = ctypes.c_uint8
 _u16 = ctypes.c_uint16
+_u32 = ctypes.c_uint32
 
 # The numbered answers, as the paper gives them; 0 is a success.
 REFUSALS = {
@@ -42,7 +47,7 @@ class Refused(Exception):
     """A call was refused; `number` is the paper's number of the reason."""
 
     def __init__(self, number):
-        super().__init__(f"refused ({number}): {REFUSALS[number]}")
+        super().__init__(f"refused ({number}): {REFUSALS.get(number, 'a reason that this binding does not know')}")
         self.number = number
 
 
@@ -102,9 +107,21 @@ class _Checked(ctypes.Structure):
     _fields_ = [("checks", _u8 * 11), ("answer", _u8)]
 
 
-def _load():
-    beside = pathlib.Path(__file__).resolve().parents[2] / "target" / "film" / "libfilm.so"
-    library = ctypes.CDLL(os.environ.get("FILM_LIBRARY", str(beside)))
+def _check_version(library, path):
+    """A library of another major version is not taken: its structs may be laid out otherwise."""
+    own = int(__version__.split(".")[0])
+    if not hasattr(library, "film_version"):
+        raise ImportError(f"{path} tells no version; this binding is for major version {own}")
+    library.film_version.argtypes, library.film_version.restype = [], _u32
+    major = library.film_version() // 1000000
+    if major != own:
+        raise ImportError(f"{path} is of major version {major}; this binding is for major version {own}")
+
+
+def _load(path):
+    """The library at a path, with the types of its functions."""
+    library = ctypes.CDLL(path)
+    _check_version(library, path)
     given = [ctypes.c_char_p, ctypes.c_size_t]
     output = [ctypes.POINTER(_u8), ctypes.c_size_t]
     for name, takes, gives in [
@@ -126,7 +143,8 @@ def _load():
     return library
 
 
-_library = _load()
+_beside = pathlib.Path(__file__).resolve().parents[2] / "target" / "film" / "libfilm.so"
+_library = _load(os.environ.get("FILM_LIBRARY", str(_beside)))
 
 
 def _bounded(number, most):
@@ -164,6 +182,11 @@ def _value(result):
     if result.answer:
         raise Refused(result.answer)
     return result.value
+
+
+def version() -> int:
+    """The version of the library that was loaded: a million times the major number, a thousand times the minor, and the patch."""
+    return _library.film_version()
 
 
 def sum(u, v):

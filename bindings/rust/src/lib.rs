@@ -20,91 +20,22 @@
 #![deny(missing_docs)]
 
 mod library;
+mod refusal;
 
-use core::fmt;
+pub use refusal::Refusal;
 
-/// Why a call was refused, with the paper's number.
-#[derive(Clone, Copy, Debug, PartialEq, Eq, Hash)]
-#[repr(u8)]
-pub enum Refusal {
-    /// A line or ring is not 63 long, or text to be encoded is not 50 long.
-    InputLength = 1,
-    /// A character (a register's too) or field operand is over 63, or a data row over 127.
-    ValueOver = 2,
-    /// Radius over 5.
-    RadiusOver = 3,
-    /// Number over 4095.
-    NumberOver = 4,
-    /// Output length differs from the one stated.
-    OutputLength = 5,
-    /// No line within the radius; for ring reading, an empty list.
-    NoLine = 6,
-    /// The line found has another number than the wanted one.
-    OtherNumber = 7,
-    /// Block rows outside 2..64, or data rows outside 1..63.
-    RowCount = 8,
-    /// No proper block within one bit.
-    NoBlock = 9,
-    /// Ring reading: two or more entries in the list.
-    ManyStarts = 10,
-    /// A step is asked of a register that holds 52 characters, or anything of one whose count is above 52.
-    RegisterFull = 11,
-    /// The register holds fewer than 52.
-    RegisterShort = 12,
+/// The version that this crate was made for: a million times the major number, a thousand times the minor, and the patch. It is the crate's own;
+/// tools/tables writes it from version.txt.
+pub const VERSION: u32 = 1000000;
+
+/// The version of the library that is linked, written as [`VERSION`] is.
+pub fn version() -> u32 {
+    library::version()
 }
 
-impl Refusal {
-    /// The refusals in the order of their numbers, from 1.
-    pub const ALL: [Refusal; 12] = [
-        Refusal::InputLength,
-        Refusal::ValueOver,
-        Refusal::RadiusOver,
-        Refusal::NumberOver,
-        Refusal::OutputLength,
-        Refusal::NoLine,
-        Refusal::OtherNumber,
-        Refusal::RowCount,
-        Refusal::NoBlock,
-        Refusal::ManyStarts,
-        Refusal::RegisterFull,
-        Refusal::RegisterShort,
-    ];
-
-    /// The paper's number.
-    pub fn number(self) -> u8 {
-        self as u8
-    }
-}
-
-impl fmt::Display for Refusal {
-    fn fmt(&self, f: &mut fmt::Formatter<'_>) -> fmt::Result {
-        let why = match self {
-            Refusal::InputLength => "a line or ring is not 63 long, or text is not 50 long",
-            Refusal::ValueOver => "a character or field operand is over 63, or a data row over 127",
-            Refusal::RadiusOver => "radius over 5",
-            Refusal::NumberOver => "number over 4095",
-            Refusal::OutputLength => "output length differs from the one stated",
-            Refusal::NoLine => "no line within the radius",
-            Refusal::OtherNumber => "the line found has another number than the wanted one",
-            Refusal::RowCount => "block rows outside 2..64, or data rows outside 1..63",
-            Refusal::NoBlock => "no proper block within one bit",
-            Refusal::ManyStarts => "the ring has two or more starts",
-            Refusal::RegisterFull => "the register is full",
-            Refusal::RegisterShort => "the register holds fewer than 52",
-        };
-        write!(f, "refused ({}): {why}", self.number())
-    }
-}
-
-impl core::error::Error for Refusal {}
-
-/// What was done, or the refusal of that number.
+/// What was done, or the refusal that the answer tells.
 fn answered<T>(answer: u8, done: T) -> Result<T, Refusal> {
-    match answer {
-        0 => Ok(done),
-        // an answer is at most 12, by each function's promise
-        number => Err(Refusal::ALL[number as usize - 1]),
-    }
+    Refusal::of_answer(answer).map_or(Ok(done), Err)
 }
 
 /// The sum of two elements of the field.

@@ -49,6 +49,7 @@ pub struct Checked {
 
 #[link(name = "film", kind = "static")]
 extern "C" {
+    fn film_version() -> u32;
     fn film_sum(u: u8, v: u8) -> Element;
     fn film_product(u: u8, v: u8) -> Element;
     fn film_quotient(u: u8, v: u8) -> Element;
@@ -65,6 +66,10 @@ extern "C" {
 
 // Each call is safe: the library takes every value of its numbers, and a slice is good for its length; an output that is lent
 // to be written overlaps no other slice.
+
+pub fn version() -> u32 {
+    unsafe { film_version() }
+}
 
 pub fn sum(u: u8, v: u8) -> Element {
     unsafe { film_sum(u, v) }

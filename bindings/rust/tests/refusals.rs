@@ -170,8 +170,30 @@ fn a_register() {
 
 #[test]
 fn numbers_of_refusals() {
-    for (i, refusal) in Refusal::ALL.into_iter().enumerate() {
-        assert_eq!(refusal.number() as usize, i + 1);
-        assert!(refusal.to_string().starts_with(&format!("refused ({}): ", i + 1)));
+    assert!(Refusal::ALL.windows(2).all(|two| two[0].number() < two[1].number()));
+    for &refusal in Refusal::ALL {
+        assert_eq!(Refusal::of_answer(refusal.number()), Some(refusal));
+        assert!(refusal.to_string().starts_with(&format!("refused ({}): ", refusal.number())));
     }
+    assert_eq!((Refusal::InputLength.number(), Refusal::NoLine.number(), Refusal::RegisterShort.number()), (1, 6, 12));
+    assert_eq!(Refusal::NoLine.to_string(), "refused (6): no line within the radius; for ring reading, an empty list");
+}
+
+/// Every answer is told, also one that this crate does not know.
+#[test]
+fn any_answer() {
+    assert_eq!(Refusal::of_answer(0), None);
+    for answer in 1..=255 {
+        let refusal = Refusal::of_answer(answer).unwrap();
+        assert_eq!(refusal.number(), answer);
+        assert_eq!(refusal == Refusal::Unknown(answer), Refusal::ALL.iter().all(|known| known.number() != answer));
+    }
+    assert_eq!(Refusal::of_answer(255).unwrap().to_string(), "refused (255): a reason that this crate does not know");
+}
+
+#[test]
+fn versions() {
+    assert_eq!(film::version(), film::VERSION);
+    let parts = [film::VERSION / 1_000_000, film::VERSION / 1000 % 1000, film::VERSION % 1000];
+    assert_eq!(parts.map(|n| n.to_string()).join("."), env!("CARGO_PKG_VERSION"));
 }

@@ -1,2 +1,3 @@
--- What the library gives back, as the paper's numbers.
+-- What the library gives back, as the paper's numbers, and its version.
 pub mod Numbers
+pub mod Version

@@ -1,4 +1,4 @@
-// The library that other programs link: each function hands its call to the entry point of that name and gives back the paper's numbers.
+// The library that other programs link: each function hands its call to the entry point of that name and gives back the paper's numbers; one tells the version.
 ghost use mathlib.Core.Path.{_≡_};
 ghost use mathlib.Core.List.{[], _∷_};
 ghost use Rattle.field.specs.Promises as Field;
@@ -7,6 +7,7 @@ ghost use Rattle.line.specs.Promises as Line;
 ghost use Rattle.line.specs.declared.Wanted.the-variants.{Any, Number};
 ghost use Rattle.ring.specs.Promises as Ring;
 ghost use Rattle.block.specs.Promises as Block;
+ghost use Rattle.film.specs.Version.{version};
 ghost use Rattle.film.specs.Numbers.{elementNumbers, lineNumbers, listNumbers, ringNumbers, blockNumbers, registerOf, checkNumbers};
 use block::BlockEncoding;
 use block::BlockReading;
@@ -19,6 +20,17 @@ use line::LineReading;
 use line::Wanted;
 use ring::RingListing;
 use ring::RingReading;
+
+// The library's version: a million times the major number, a thousand times the minor, and the patch. tools/tables writes it from version.txt.
+const VERSION: u32 = 1000000;
+
+// The version of the library that is linked.
+#[no_mangle]
+pub extern "C" fn film_version() -> u32
+    ensures { λ r. ⌜ r ≡ version ⌝ }
+{
+    VERSION // as the header's FILM_VERSION writes it
+}
 
 // The answer of an operation of the field, and its value.
 #[repr(C)]

@@ -1,54 +1,22 @@
 -- A number fixes its refusal, and the tests fix the answer.
-use mathlib.Core.Path.{_≡_, refl, sym, _∙_, ap}
+use mathlib.Core.Path.{_≡_, sym, _∙_, ap}
 use mathlib.Core.Bool.{true, false}
 use mathlib.Core.Logic.{inl, inr}
 use mathlib.Core.List.{List, [], _∷_}
-use Prim.Native.Nat.{ℕ, suc}
-use lib.ListN.{getD}
+use Prim.Native.Nat.{ℕ}
 use native.Mathlib.Omega.{arith}
 use Rattle.refusal.specs.declared.Refusal.{Refusal}
-use Rattle.refusal.specs.declared.Refusal.the-variants.{InputLength, ValueOver, RadiusOver, NumberOver, OutputLength, NoLine, OtherNumber, RowCount, NoBlock, ManyStarts, RegisterFull, RegisterShort}
 use Rattle.refusal.specs.Number.{numberOf}
 use Rattle.refusal.specs.Promise.{Test, Answer, Tells}
-
--- the refusals in the order of their numbers, from 1
-refusals : List Refusal
-refusals =
-    InputLength ∷ ValueOver ∷ RadiusOver ∷ NumberOver ∷ OutputLength ∷ NoLine ∷ OtherNumber ∷ RowCount ∷ NoBlock ∷ ManyStarts
-    ∷ RegisterFull ∷ RegisterShort ∷ []
-
--- which place of that list is its own, and so that the number is not 0
-record Numbered (r : Refusal) : Type 0 where
-  place : ℕ
-  is : numberOf r ≡ suc place
-  here : getD refusals place InputLength ≡ r
-
-numbered : (r : Refusal) → Numbered r
-unfolding refusals
-numbered InputLength = record { place = 0; is = refl; here = refl }
-numbered ValueOver = record { place = 1; is = refl; here = refl }
-numbered RadiusOver = record { place = 2; is = refl; here = refl }
-numbered NumberOver = record { place = 3; is = refl; here = refl }
-numbered OutputLength = record { place = 4; is = refl; here = refl }
-numbered NoLine = record { place = 5; is = refl; here = refl }
-numbered OtherNumber = record { place = 6; is = refl; here = refl }
-numbered RowCount = record { place = 7; is = refl; here = refl }
-numbered NoBlock = record { place = 8; is = refl; here = refl }
-numbered ManyStarts = record { place = 9; is = refl; here = refl }
-numbered RegisterFull = record { place = 10; is = refl; here = refl }
-numbered RegisterShort = record { place = 11; is = refl; here = refl }
+use Rattle.refusal.proofs.Numbered.{refusalOf, numbered}
 
 -- no refusal has the number of a success
 pub refusal-positive : (r : Refusal) → numberOf r ≡ 0 → ⊥
-refusal-positive r e = let n = numbered r in omega (arith, n .is)
+refusal-positive r e = omega (arith, numbered r .least)
 
 -- a number fixes its refusal
 pub one-refusal : (r s : Refusal) → numberOf r ≡ numberOf s → r ≡ s
-one-refusal r s e =
-    let n = numbered r in
-    let m = numbered s in
-    let p : n .place ≡ m .place = omega (arith, n .is, m .is) in
-    sym (n .here) ∙ ap (λ (i : ℕ). getD refusals i InputLength) p ∙ m .here
+one-refusal r s e = sym (numbered r .named) ∙ ap refusalOf e ∙ numbered s .named
 
 -- the tests fix the answer
 pub one-answer : (ts : List Test) (m n : ℕ) → Answer ts m → Answer ts n → m ≡ n

@@ -1,4 +1,4 @@
-// The numbered refusals, by name: what is wrong, and the number that the paper gives it.
+// The numbered refusals, by name: what is wrong, and the number that the paper gives it. tools/tables writes the cases from refusals.txt.
 ghost use mathlib.Core.Path.{_≡_};
 ghost use Rattle.refusal.specs.Number.{numberOf};
 

@@ -5,8 +5,8 @@ use Prim.Native.Nat.{ℕ, suc, _+_, _*_, _<_, _≤_}
 use native.Mathlib.Omega.{arith}
 use lib.ListN.{length, getD, length-append}
 use Rattle.refusal.specs.declared.Refusal.{Refusal}
-use Rattle.refusal.specs.declared.Refusal.the-variants.{InputLength, ValueOver, RadiusOver, NumberOver, OutputLength, NoLine, OtherNumber, RowCount, NoBlock, ManyStarts, RegisterFull, RegisterShort}
 use Rattle.refusal.specs.Number.{numberOf}
+use Rattle.refusal.proofs.Numbered.{numbered}
 use Rattle.refusal.proofs.Laws.{passed}
 use Rattle.code.specs.Word.{Line, number}
 use Rattle.code.proofs.Lines.{line-characters}
@@ -33,18 +33,7 @@ use Rattle.report.proofs.First.{section-used}
 -- ---- the numbers of an item
 
 two-digits : (r : Refusal) → numberOf r < 100
-two-digits InputLength = omega arith
-two-digits ValueOver = omega arith
-two-digits RadiusOver = omega arith
-two-digits NumberOver = omega arith
-two-digits OutputLength = omega arith
-two-digits NoLine = omega arith
-two-digits OtherNumber = omega arith
-two-digits RowCount = omega arith
-two-digits NoBlock = omega arith
-two-digits ManyStarts = omega arith
-two-digits RegisterFull = omega arith
-two-digits RegisterShort = omega arith
+two-digits r = omega (arith, numbered r .most)
 
 -- an answer of at most two digits, a number of at most three, and one of at most four
 record Few (fields : List ℕ) : Type 0 where

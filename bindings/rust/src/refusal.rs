@@ -1,0 +1,104 @@
+//! Why a call was refused: the refusals by name, with their numbers. tools/tables writes the cases from refusals.txt.
+
+use core::fmt;
+
+/// Why a call was refused. Later versions may have more cases.
+#[derive(Clone, Copy, Debug, PartialEq, Eq, Hash)]
+#[non_exhaustive]
+pub enum Refusal {
+    /// A line or ring is not 63 long, or text to be encoded is not 50 long.
+    InputLength,
+    /// A character (a register's too) or field operand is over 63, or a data row over 127.
+    ValueOver,
+    /// Radius over 5.
+    RadiusOver,
+    /// Number over 4095.
+    NumberOver,
+    /// Output length differs from the one stated.
+    OutputLength,
+    /// No line within the radius; for ring reading, an empty list.
+    NoLine,
+    /// The line found has another number than the wanted one.
+    OtherNumber,
+    /// Block rows outside 2..64, or data rows outside 1..63.
+    RowCount,
+    /// No proper block within one bit.
+    NoBlock,
+    /// Ring reading: two or more entries in the list.
+    ManyStarts,
+    /// A step is asked of a register that holds 52 characters, or anything of one whose count is above 52.
+    RegisterFull,
+    /// Register holds fewer than 52.
+    RegisterShort,
+    /// A number that this crate does not know: the library that is linked is a later one.
+    Unknown(u8),
+}
+
+impl Refusal {
+    /// The refusals that this crate knows, in the order of their numbers.
+    pub const ALL: &'static [Refusal] = &[
+        Refusal::InputLength,
+        Refusal::ValueOver,
+        Refusal::RadiusOver,
+        Refusal::NumberOver,
+        Refusal::OutputLength,
+        Refusal::NoLine,
+        Refusal::OtherNumber,
+        Refusal::RowCount,
+        Refusal::NoBlock,
+        Refusal::ManyStarts,
+        Refusal::RegisterFull,
+        Refusal::RegisterShort,
+    ];
+
+    /// The paper's number.
+    pub fn number(self) -> u8 {
+        match self {
+            Refusal::InputLength => 1,
+            Refusal::ValueOver => 2,
+            Refusal::RadiusOver => 3,
+            Refusal::NumberOver => 4,
+            Refusal::OutputLength => 5,
+            Refusal::NoLine => 6,
+            Refusal::OtherNumber => 7,
+            Refusal::RowCount => 8,
+            Refusal::NoBlock => 9,
+            Refusal::ManyStarts => 10,
+            Refusal::RegisterFull => 11,
+            Refusal::RegisterShort => 12,
+            Refusal::Unknown(number) => number,
+        }
+    }
+
+    /// The refusal that an answer of the library tells; none, where the answer is 0.
+    pub fn of_answer(answer: u8) -> Option<Refusal> {
+        if answer == 0 {
+            return None;
+        }
+        let known = Refusal::ALL.iter().copied().find(|refusal| refusal.number() == answer);
+        Some(known.unwrap_or(Refusal::Unknown(answer)))
+    }
+}
+
+impl fmt::Display for Refusal {
+    fn fmt(&self, f: &mut fmt::Formatter<'_>) -> fmt::Result {
+        let why = match self {
+            Refusal::InputLength => "a line or ring is not 63 long, or text to be encoded is not 50 long",
+            Refusal::ValueOver => "a character (a register's too) or field operand is over 63, or a data row over 127",
+            Refusal::RadiusOver => "radius over 5",
+            Refusal::NumberOver => "number over 4095",
+            Refusal::OutputLength => "output length differs from the one stated",
+            Refusal::NoLine => "no line within the radius; for ring reading, an empty list",
+            Refusal::OtherNumber => "the line found has another number than the wanted one",
+            Refusal::RowCount => "block rows outside 2..64, or data rows outside 1..63",
+            Refusal::NoBlock => "no proper block within one bit",
+            Refusal::ManyStarts => "ring reading: two or more entries in the list",
+            Refusal::RegisterFull => "a step is asked of a register that holds 52 characters, or anything of one whose count is above 52",
+            Refusal::RegisterShort => "register holds fewer than 52",
+            Refusal::Unknown(_) => "a reason that this crate does not know",
+        };
+        write!(f, "refused ({}): {why}", self.number())
+    }
+}
+
+impl core::error::Error for Refusal {}

@@ -1,0 +1,29 @@
+//! The numbers of the refusals, by name. tools/tables writes them from refusals.txt.
+
+// A number that no rule here answers is no mistake.
+#![allow(dead_code)]
+
+/// A line or ring is not 63 long, or text to be encoded is not 50 long.
+pub const INPUT_LENGTH: u8 = 1;
+/// A character (a register's too) or field operand is over 63, or a data row over 127.
+pub const VALUE_OVER: u8 = 2;
+/// Radius over 5.
+pub const RADIUS_OVER: u8 = 3;
+/// Number over 4095.
+pub const NUMBER_OVER: u8 = 4;
+/// Output length differs from the one stated.
+pub const OUTPUT_LENGTH: u8 = 5;
+/// No line within the radius; for ring reading, an empty list.
+pub const NO_LINE: u8 = 6;
+/// The line found has another number than the wanted one.
+pub const OTHER_NUMBER: u8 = 7;
+/// Block rows outside 2..64, or data rows outside 1..63.
+pub const ROW_COUNT: u8 = 8;
+/// No proper block within one bit.
+pub const NO_BLOCK: u8 = 9;
+/// Ring reading: two or more entries in the list.
+pub const MANY_STARTS: u8 = 10;
+/// A step is asked of a register that holds 52 characters, or anything of one whose count is above 52.
+pub const REGISTER_FULL: u8 = 11;
+/// Register holds fewer than 52.
+pub const REGISTER_SHORT: u8 = 12;

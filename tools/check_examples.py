@@ -1,9 +1,15 @@
-"""Checks README.md: the example of each binding has five lines or fewer, and each is a line of the example that tools/test-bindings runs."""
+"""Checks README.md: the example of each binding has five lines or fewer, and each is a line of the example that tools/test-bindings runs.
+
+It takes no words."""
 
 import pathlib
 import re
 import sys
 
+sys.dont_write_bytecode = True
+from shared import words
+
+words(__doc__)
 EXAMPLES = {"c": "bindings/c/example.c", "rust": "bindings/rust/examples/read.rs", "python": "bindings/python/example.py"}
 
 root = pathlib.Path(__file__).resolve().parents[1]

@@ -68,21 +68,21 @@ def edits(row):
 
 def is_of_functions(row):
     """Whether this is a row of a table of functions: those in the first cell belong to the crates in the second."""
-    return row.head[:2] in (["Entry point", "Crate"], ["Function", "Crate"]) and row.cells != row.head and not set(row.cells[0]) <= set("-: ")
+    return bool(row.cells) and row.head[:2] in (["Entry point", "Crate"], ["Function", "Crate"]) and row.cells != row.head and not set(row.cells[0]) <= set("-: ")
 
 
 def functions(row):
-    """The functions in the first cell of such a row, each with the crates that it can be of."""
-    for name in TICKED.findall(row.cells[0]):
+    """The functions in the first cell of such a row, `at0` to `at20` being 21, each with the crates that it can be of."""
+    for name in TICKED.findall(re.sub(r"`([a-z_]+)(\d+)` to `\1(\d+)`", lambda m: "".join(f"`{m[1]}{i}`" for i in range(int(m[2]), int(m[3]) + 1)), row.cells[0])):
         yield name.split("(")[0].split("::")[-1], row.cells[1].split(", ")
 
 
 def names(row):
     """The definitions that a line names, each as the places where it can stand: a crate, a file, and a name or ''.
 
-    `crate/File.name` and `crate/File` are whole names. In a table's cell that has one, or whose row has its crate in the second cell, `File.name` is of a crate
-    that the row names, and a name alone is of a file that the cell names before it."""
-    crates = row.cells[1].split(", ") if row.cells and is_of_functions(row) else []
+    `crate/File.name` and `crate/File` are whole names. In a table `File.name` is of a crate that the row names before it, and a name alone is of a file that the
+    cell names before it."""
+    crates = row.cells[1].split(", ") if is_of_functions(row) else []
     for cell in row.cells or [row.text]:
         files = []
         for word in TICKED.findall(EDITS.sub("", cell)):
@@ -91,9 +91,9 @@ def names(row):
                 if crate in FOLDERS:
                     continue
                 crates = [*crates, crate]
-                files.append((crate, file))
+                files += [(crate, file)] if row.cells else []
                 yield word, [(crate, file, name)]
-            elif (part := re.fullmatch(r"([A-Z]\w*)\.([^\s.()]+)", word)) and crates:
+            elif row.cells and (part := re.fullmatch(r"([A-Z]\w*)\.([^\s.()]+)", word)) and crates:
                 files += [(crate, part[1]) for crate in crates]
                 yield word, [(crate, *part.groups()) for crate in reversed(crates)]
             elif files and re.fullmatch(r"[^\s.:/()]+", word):

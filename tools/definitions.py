@@ -6,7 +6,8 @@ from typing import NamedTuple
 
 CRATES = pathlib.Path(__file__).resolve().parents[1] / "crates"
 
-# `Rattle.NAME.specs.File.{..}`, `Rattle.NAME.specs.File.{..}` for the crate itself, `.. as A`; a type of the code is declared.Type, its cases declared.Type.the-variants
+# `Rattle.NAME.specs.File.{..}`, `Rattle.NAME.specs.File.{..}` for the crate itself, or `.. as A`; a type of the code is declared.Type, its cases
+# declared.Type.the-variants
 USE = re.compile(r"^(?:ghost )?use Rattle·(\w+?)(?:·specs)?\.specs\.(declared\.)?(\w+?)(?:\.the-variants)?(?:\.\{([^}]*)\}| as (\w+));?$", re.MULTILINE)
 SIGNATURE = re.compile(r"(?:(?:abbrev|unfoldable|pub) )*(?:(?:record|data) )?(\S+)")
 BEGINS = ("pub ", "abbrev ", "unfoldable ", "record ", "data ")
@@ -40,7 +41,10 @@ class Source:
     def __init__(self, crate, file, text):
         self.crate, self.file = crate, file
         self.used, self.renamed, self.own = {}, {}, {}
-        for used, declared, name, names, alias in USE.findall(text):
+        lines = USE.findall(text)
+        if len(lines) != text.count("use Rattle·"):
+            raise ValueError(f"{crate}, {file}: a `use` line of a form that is not known here")
+        for used, declared, name, names, alias in lines:
             place = (used, "declared" if declared else name)
             if alias:
                 self.renamed[alias] = (place, name if declared else None)
@@ -64,7 +68,7 @@ def without_comments(text, mark):
 
 def specification(crate, path):
     source = Source(crate, path.stem, path.read_text())
-    current = None
+    current, is_data = None, False
     for line in without_comments(path.read_text(), "--"):
         if line.startswith(("use ", "pub mod ", "infix ")):
             continue
@@ -74,6 +78,8 @@ def specification(crate, path):
             is_data = line.startswith(("data ", "pub data "))
         elif is_data and (case := re.match(r"  (\S+) : ", line)):
             source.own[case.group(1)] = current
+        if current is None:
+            raise ValueError(f"{path}: no definition begins so: {line}")
         current.lines.append(line)
     return source
 

@@ -120,6 +120,8 @@ def reached(functions):
         place = waiting.pop()
         source = place and sources.get(place[:2])
         definition = source and source.own.get(place.name)
+        if source and not definition and place.file != "declared":
+            raise LookupError(f"{place.crate}, {place.file}: no definition {place.name} was found")
         if definition and definition not in met:
             met[definition] = place
             waiting += [definition.source.place_of(word) for word in definition.words()]

@@ -1,4 +1,4 @@
-"""Tests of tray.py: run them by `python3 tools/test_tray.py`.
+"""Tests of tray.py: run them by `python3 tools/test_tray.py`, which takes no words.
 
 What a line, a start and a proper block are is written here once more, from the rules and in other ways than in the tool: power sums by
 logarithms, not a division; what a start reads, not where a character goes; ones that are counted, not summed.
@@ -12,6 +12,7 @@ import tempfile
 import unittest
 
 sys.dont_write_bytecode = True
+from shared import words
 from tray import Fault, make, show
 
 HERE = os.path.dirname(os.path.abspath(__file__))
@@ -367,4 +368,5 @@ class Samples(unittest.TestCase):
 
 
 if __name__ == "__main__":
+    words(__doc__)
     unittest.main()

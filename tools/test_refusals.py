@@ -1,13 +1,13 @@
-"""Tests of tools/refusals.py and of the words of tools/tables: what is refused and why, and that one more line reaches every copy."""
+"""Tests of tools/refusals.py: what is refused and why, and that one more line reaches every copy. It takes no words."""
 
 import pathlib
-import subprocess
 import sys
 import tempfile
 import unittest
 
 sys.dont_write_bytecode = True
 import refusals
+from shared import words
 
 ROOT = pathlib.Path(__file__).resolve().parents[1]
 LINE = "6 | NoLine | no line within the radius | Scan again.\n"
@@ -73,17 +73,7 @@ class Tests(unittest.TestCase):
                 self.assertLessEqual(len(more.splitlines()), 12, path)
             self.assertEqual(dict(refusals.copies(root)), after)
 
-    def test_words(self):
-        tables = ROOT / "tools/tables"
-        before = {path: path.stat().st_mtime_ns for path in map(ROOT.joinpath, [part[0] for part in refusals.PARTS])}
-        told = subprocess.run([tables, "--help"], capture_output=True, text=True)
-        self.assertEqual((told.returncode, told.stderr), (0, ""))
-        self.assertIn("--check", told.stdout)
-        for words in (["--wrong"], ["--check", "more"], ["check"]):
-            refused = subprocess.run([tables, *words], capture_output=True, text=True)
-            self.assertEqual((refused.returncode, refused.stdout), (2, ""))
-        self.assertEqual(before, {path: path.stat().st_mtime_ns for path in before})
-
 
 if __name__ == "__main__":
+    words(__doc__)
     unittest.main()

@@ -30,6 +30,12 @@ const HELP: &str = "The second program, from the project's root:
     second --help                                prints this
 ";
 
+/// For words that are none of these.
+fn refuse() -> ! {
+    eprint!("{HELP}");
+    exit(2)
+}
+
 /// Writes what a program crate has to write.
 fn store(name: &str, stdout: &str) {
     fs::write(format!("crates/{name}/stdout"), stdout).expect("run this from the project's root");
@@ -48,7 +54,7 @@ fn print_report() {
 }
 
 fn print_comparison(program: &str, trays: &str, seed: &str, first: &str) {
-    let [trays, seed, first] = [trays, seed, first].map(|number| number.parse().expect("TRAYS, SEED and FIRST are numbers"));
+    let [trays, seed, first] = [trays, seed, first].map(|number| number.parse().unwrap_or_else(|_| refuse()));
     match compare::compare(program, trays, seed, first) {
         Ok(summary) => println!("{summary}"),
         Err(difference) => {
@@ -62,16 +68,13 @@ fn main() {
     let arguments: Vec<String> = env::args().skip(1).collect();
     let words: Vec<&str> = arguments.iter().map(String::as_str).collect();
     match words[..] {
+        _ if words.contains(&"--help") => print!("{HELP}"),
         [name @ "bench_sheet"] => store(name, &sheet::rows()),
         [name @ "cases"] => store_both(name, cases::stored()),
         ["tray"] => print_report(),
         ["compare", program, trays] => print_comparison(program, trays, "1", "0"),
         ["compare", program, trays, seed] => print_comparison(program, trays, seed, "0"),
         ["compare", program, trays, seed, first] => print_comparison(program, trays, seed, first),
-        ["--help"] => print!("{HELP}"),
-        _ => {
-            eprint!("{HELP}");
-            exit(2);
-        }
+        _ => refuse(),
     }
 }

@@ -1,23 +1,23 @@
-// Hands stored cases to the library's functions, and prints for each what was answered.
+// Hands stored cases to the library's functions, and prints a line for each with all that was answered.
 //
-// Standard input is one case after another: a head of eight bytes, and then the input. The head is the call, a small number (a radius, an
-// operand or a character), a number in two bytes (of a line, wanted, or a register's count), the length of the output that is lent, in two
-// bytes, and the length of the input, in two bytes; the high byte comes first. Every length that two bytes can say is taken. The output
-// is lent with 170 in every byte, so that it shows where it is left alone.
+// Standard input is one case after another: a head of eight bytes, and then the input. The head is these bytes, a number's high byte first:
+// the call; a small number (a radius, a first operand or a character); a number of two bytes (of a line, wanted, or a register's count);
+// the length of the output that is lent, in two bytes; the length of the input, in two bytes. No case is too long: there is room for every
+// length that two bytes can say. The output is lent with LENT in every byte, so that it shows where it is left alone.
 //
-// A line is printed for each case: the call's name, the numbers of the answer, and where the call gives bytes, all of them in hexadecimal,
-// in brackets. A case of sum, product or quotient is a row: each byte of the input is a second operand, and a space is printed for each and the
-// value in two hexadecimal digits, or `r` and the refusal's number. The input of step and of checks is the eleven characters held. A case
-// whose call is unknown, or that is no register where one is wanted, is `passed over`. The run ends where the input does, also within a case, and
-// after MOST_CASES.
+// A line is the call's name, the numbers of the answer, and the bytes that were given in hexadecimal, in brackets.
+// Sum, product and quotient: each byte of the input is a second operand, and what is printed for it after a space is the value in two
+// hexadecimal digits, or `r` and the number of the refusal.
+// Step and checks: the input is the eleven characters held (0 for each that is not there), and the number's low byte is the count.
+// Any other call: `passed over`.
+// The run ends where the input ends, also within a case, or after MOST_CASES.
 //
-// A new call has a constant, a function that hands it over and prints, and an arm of `hand_over`; the second program has the same constant and
-// the cases (second/cases.rs).
+// A new call is a constant, a function that hands it over and shows its answer, and an arm of `hand_over`. The second program has the same
+// constant, and makes the cases (second/cases.rs).
 ghost use mathlib.Core.Path.{_≡_};
 ghost use Prim.Native.Nat.{_≤_};
 ghost use lib.ListN.{length};
 use film::FilmElement;
-use film::FilmLine;
 use film::FilmRegister;
 use libc::STDIN_FILENO;
 use libc::STDOUT_FILENO;
@@ -46,25 +46,40 @@ const ENCODE_BLOCK: u8 = 11;
 
 const READ_BLOCK: u8 = 12;
 
-// The longest input and the longest output: the largest number of two bytes.
+// The length of a head.
+const HEAD: usize = 8;
+
+// What stands in each byte of an output that is lent.
+const LENT: u8 = 170;
+
+// The longest input, and the longest output: the largest number of two bytes.
 const LONGEST: usize = 65535;
 
-// So that the run ends whatever the input is.
+// The most cases of a run, so that it ends whatever the input is.
 const MOST_CASES: u32 = 1000000;
 
 fn print(text: &[u8]) {
     io::write_all(STDOUT_FILENO, text);
 }
 
-// Prints a space and a number.
-fn print_number(n: u64) {
-    print(b" ");
-    io::print_decimal(STDOUT_FILENO, n);
-}
-
 // Prints a byte as two hexadecimal digits.
 fn print_byte(x: u8) {
     io::print_hex(STDOUT_FILENO, x as u64, 2);
+}
+
+// Prints a space and a number.
+fn print_number(n: u16) {
+    print(b" ");
+    io::print_decimal(STDOUT_FILENO, n as u64);
+}
+
+// Prints the numbers of an answer.
+fn print_numbers(numbers: &[u16]) {
+    let mut i: usize = 0;
+    while i < numbers.len() {
+        print_number(numbers[i]);
+        i += 1;
+    }
 }
 
 // Prints a space and the bytes, in brackets, and ends the line.
@@ -78,7 +93,14 @@ fn print_bytes(bytes: &[u8]) {
     print(b"]\n");
 }
 
-// A case that no function can be handed.
+// Prints a call's name, the numbers of its answer and the bytes that go with them.
+fn show(name: &[u8], numbers: &[u16], bytes: &[u8]) {
+    print(name);
+    print_numbers(numbers);
+    print_bytes(bytes);
+}
+
+// A case of no call that is known.
 fn pass_over() {
     print(b"passed over\n");
 }
@@ -89,6 +111,15 @@ fn element_of(call: u8, u: u8, v: u8) -> FilmElement {
         SUM => film::film_sum(u, v),
         PRODUCT => film::film_product(u, v),
         _ => film::film_quotient(u, v),
+    }
+}
+
+// The name of such an operation.
+fn print_operation(call: u8) {
+    match call {
+        SUM => print(b"sum"),
+        PRODUCT => print(b"product"),
+        _ => print(b"quotient"),
     }
 }
 
@@ -104,8 +135,8 @@ fn print_element(element: FilmElement) {
 }
 
 // A row of sums, products or quotients, with one first operand.
-fn row(name: &[u8], call: u8, u: u8, seconds: &[u8]) {
-    print(name);
+fn row(call: u8, u: u8, seconds: &[u8]) {
+    print_operation(call);
     let mut i: usize = 0;
     while i < seconds.len() {
         print_element(element_of(call, u, seconds[i]));
@@ -116,120 +147,107 @@ fn row(name: &[u8], call: u8, u: u8, seconds: &[u8]) {
 
 fn encode_line(text: &[u8], number: u16, output: &mut [u8]) {
     let answer = film::film_encode_line(text, number, output);
-    print(b"encode_line");
-    print_number(answer as u64);
-    print_bytes(output);
+    show(b"encode_line", &[answer as u16], output);
 }
 
-// A register from the eleven characters held and its count.
-fn register_of(held: &[u8], count: u16) -> FilmRegister
-    requires { ⌜ 11 ≤ length (now held) ⌝ }
-    requires { ⌜ count ≤ 255 ⌝ }
-{
-    let held = [
-        held[0],
-        held[1],
-        held[2],
-        held[3],
-        held[4],
-        held[5],
-        held[6],
-        held[7],
-        held[8],
-        held[9],
-        held[10],
+// A byte, and 0 past the end.
+fn byte_at(bytes: &[u8], i: usize) -> u8 {
+    if i < bytes.len() { bytes[i] } else { 0 }
+}
+
+// A register from the characters held and its count.
+fn register_of(held: &[u8], count: u16) -> FilmRegister {
+    let eleven = [
+        byte_at(held, 0),
+        byte_at(held, 1),
+        byte_at(held, 2),
+        byte_at(held, 3),
+        byte_at(held, 4),
+        byte_at(held, 5),
+        byte_at(held, 6),
+        byte_at(held, 7),
+        byte_at(held, 8),
+        byte_at(held, 9),
+        byte_at(held, 10),
     ];
     FilmRegister {
-        held: held,
-        count: count as u8,
+        held: eleven,
+        count: (count % 256) as u8,
     }
 }
 
 fn step(held: &[u8], count: u16, c: u8) {
-    if held.len() != 11 || count > 255 {
-        pass_over();
-        return;
-    }
     let given = film::film_step(register_of(held, count), c);
     let after = given.register;
     let left = after.held;
-    print(b"step");
-    print_number(given.answer as u64);
-    print_number(after.count as u64);
-    print_bytes(&left);
+    show(b"step", &[given.answer as u16, after.count as u16], &left);
 }
 
 fn checks(held: &[u8], count: u16) {
-    if held.len() != 11 || count > 255 {
-        pass_over();
-        return;
-    }
     let given = film::film_checks(register_of(held, count));
     let checks = given.checks;
-    print(b"checks");
-    print_number(given.answer as u64);
-    print_bytes(&checks);
-}
-
-// Prints what was answered to reading a line.
-fn print_line(given: FilmLine, output: &[u8]) {
-    print_number(given.answer as u64);
-    print_number(given.number as u64);
-    print_number(given.distance as u64);
-    print_bytes(output);
+    show(b"checks", &[given.answer as u16], &checks);
 }
 
 fn read_line(word: &[u8], radius: u8, output: &mut [u8]) {
     let given = film::film_read_line(word, radius, output);
-    print(b"read_line");
-    print_line(given, output);
+    show(
+        b"read_line",
+        &[given.answer as u16, given.number, given.distance as u16],
+        output,
+    );
 }
 
 fn read_line_wanted(word: &[u8], radius: u8, wanted: u16, output: &mut [u8]) {
     let given = film::film_read_line_wanted(word, radius, wanted, output);
-    print(b"read_line_wanted");
-    print_line(given, output);
+    show(
+        b"read_line_wanted",
+        &[given.answer as u16, given.number, given.distance as u16],
+        output,
+    );
 }
 
 fn list_ring(ring: &[u8], radius: u8, output: &mut [u8]) {
     let given = film::film_list_ring(ring, radius, output);
-    print(b"list_ring");
-    print_number(given.answer as u64);
-    print_number(given.count as u64);
-    print_bytes(output);
+    show(
+        b"list_ring",
+        &[given.answer as u16, given.count as u16],
+        output,
+    );
 }
 
 fn read_ring(ring: &[u8], radius: u8, output: &mut [u8]) {
     let given = film::film_read_ring(ring, radius, output);
-    print(b"read_ring");
-    print_number(given.answer as u64);
-    print_number(given.start as u64);
-    print_number(given.number as u64);
-    print_number(given.distance as u64);
-    print_bytes(output);
+    show(
+        b"read_ring",
+        &[
+            given.answer as u16,
+            given.start as u16,
+            given.number,
+            given.distance as u16,
+        ],
+        output,
+    );
 }
 
 fn encode_block(rows: &[u8], output: &mut [u8]) {
     let answer = film::film_encode_block(rows, output);
-    print(b"encode_block");
-    print_number(answer as u64);
-    print_bytes(output);
+    show(b"encode_block", &[answer as u16], output);
 }
 
 fn read_block(rows: &[u8], output: &mut [u8]) {
     let given = film::film_read_block(rows, output);
-    print(b"read_block");
-    print_number(given.answer as u64);
-    print_number(given.distance as u64);
-    print_bytes(output);
+    show(
+        b"read_block",
+        &[given.answer as u16, given.distance as u16],
+        output,
+    );
 }
 
 // Hands a case to the function of its call.
 fn hand_over(call: u8, small: u8, number: u16, input: &[u8], output: &mut [u8]) {
     match call {
-        SUM => row(b"sum", call, small, input),
-        PRODUCT => row(b"product", call, small, input),
-        QUOTIENT => row(b"quotient", call, small, input),
+        SUM | PRODUCT | QUOTIENT => row(call, small, input),
         ENCODE_LINE => encode_line(input, number, output),
         STEP => step(input, number, small),
         CHECKS => checks(input, number),
@@ -259,11 +277,11 @@ fn wide(n: u16) -> usize
 fn untouched() -> [u8; LONGEST]
     ensures { λ r. ⌜ 65535 ≡ length r ⌝ }
 {
-    [170; LONGEST]
+    [LENT; LONGEST]
 }
 
 // Runs a case, with an output of the length that it names.
-fn run_case(head: [u8; 8], input: &[u8]) {
+fn run_case(head: [u8; HEAD], input: &[u8]) {
     let mut output = untouched();
     let room = wide(joined(head[4], head[5]));
     hand_over(
@@ -276,7 +294,7 @@ fn run_case(head: [u8; 8], input: &[u8]) {
 }
 
 // Fills the input of a case and runs the case, or tells that standard input ends first.
-fn filled_case(head: [u8; 8], input: &mut [u8]) -> bool {
+fn filled_case(head: [u8; HEAD], input: &mut [u8]) -> bool {
     if io::read_full(STDIN_FILENO, input) < input.len() {
         return false;
     }
@@ -286,8 +304,8 @@ fn filled_case(head: [u8; 8], input: &mut [u8]) -> bool {
 
 // Takes the next case and runs it, or tells that standard input ends first.
 fn next_case() -> bool {
-    let mut head = [0u8; 8];
-    if io::read_full(STDIN_FILENO, &mut head) < 8 {
+    let mut head = [0u8; HEAD];
+    if io::read_full(STDIN_FILENO, &mut head) < HEAD {
         return false;
     }
     let mut input = untouched();

@@ -6,10 +6,10 @@ use Rattle.cases.proofs.row.Statement.{statement}
 use Rattle.cases.proofs.row.Tie as tie
 
 abbrev Inv-loop : tie.InvT-loop
-Inv-loop name call u seconds i₀ t6 i = i ≤ length seconds
+Inv-loop call u seconds i₀ t5 i = i ≤ length seconds
 
 abbrev μ-loop : tie.MeasureT-loop
-μ-loop name call u seconds i₀ t6 i = length seconds - i
+μ-loop call u seconds i₀ t5 i = length seconds - i
 
 pub row-spec : {M : Type 1} → statement M
 row-spec =

@@ -1,8 +1,4 @@
 //! Parity blocks by trial: ones are counted bit by bit, a block is read by trying every single bit, and the checks are found by trying every value.
-//!
-//! Both sides of `block_cases` are made here. A case is these bytes: 0 for reading or 1 for encoding, the number of rows, the length of the
-//! output, and the rows. Its line is `read` or `encode`, the answer, the distance (0 for encoding), and the output's bytes in hexadecimal, in
-//! brackets; an output that is left alone has 170 in every byte.
 
 use crate::random::Random;
 use crate::refusals;
@@ -28,7 +24,7 @@ pub fn flipped(rows: &[u8], bits: &[(usize, usize)]) -> Vec<u8> {
 }
 
 /// Every bit of so many rows, by row and column.
-fn places(rows: usize) -> Vec<(usize, usize)> {
+pub fn places(rows: usize) -> Vec<(usize, usize)> {
     (0..rows).flat_map(|row| (0..8).map(move |column| (row, column))).collect()
 }
 
@@ -95,141 +91,6 @@ pub fn encode(data: &[u8], room: usize) -> Answer {
     (0, 0, encoded(data))
 }
 
-/// The cases, and what is printed for them.
-struct Cases {
-    stdin: Vec<u8>,
-    stdout: String,
-}
-
-impl Cases {
-    fn add(&mut self, kind: u8, rows: &[u8], room: usize) {
-        self.stdin.extend([kind, rows.len() as u8, room as u8]);
-        self.stdin.extend(rows);
-        let (word, (answer, distance, output)) = if kind == 0 { ("read", read(rows, room)) } else { ("encode", encode(rows, room)) };
-        let digits: String = output.iter().map(|x| format!("{x:02x}")).collect();
-        self.stdout.push_str(&format!("{word} {answer} {distance} [{digits}]\n"));
-    }
-
-    fn read(&mut self, rows: &[u8]) {
-        self.add(0, rows, rows.len());
-    }
-
-    fn encode(&mut self, data: &[u8]) {
-        self.add(1, data, data.len() + 1);
-    }
-}
-
 pub fn random_block(random: &mut Random, rows: usize) -> Vec<u8> {
     encoded(&random.bytes(rows - 1, 128))
-}
-
-pub fn cases() -> (Vec<u8>, String) {
-    let random = &mut Random::new(8);
-    let mut cases = Cases { stdin: Vec::new(), stdout: String::new() };
-
-    // the bench sheet's rows
-    for rows in [[3, 3], [3, 2], [3, 0]] {
-        cases.read(&rows);
-    }
-    for rows in [1, 2, 64, 65] {
-        cases.read(&vec![0; rows]);
-    }
-
-    // every number of rows: proper, with one wrong bit, and encoded
-    for rows in 0..=66 {
-        let block = if rows < 2 { random.bytes(rows, 256) } else { random_block(random, rows) };
-        cases.read(&block);
-        if rows > 0 {
-            cases.read(&flipped(&block, &[(random.below(rows), random.below(8))]));
-        }
-        cases.encode(&random.bytes(rows, 128));
-    }
-
-    // other lengths of the output, with rows that would be refused for themselves too
-    for rows in [0, 1, 2, 3, 64, 65] {
-        for room in [0, 1, 2, 3, 4, 63, 64, 65, 66, 255] {
-            cases.add(0, &vec![0; rows], room);
-            cases.add(1, &vec![0; rows], room);
-        }
-    }
-    for room in 0..=4 {
-        cases.add(0, &[3, 0], room);
-        cases.add(1, &[3, 200], room);
-    }
-
-    // every single bit wrong
-    for rows in [2, 3, 8, 16] {
-        let block = random_block(random, rows);
-        for place in places(rows) {
-            cases.read(&flipped(&block, &[place]));
-        }
-    }
-    let block = random_block(random, 64);
-    for row in 0..64 {
-        cases.read(&flipped(&block, &[(row, row % 8)]));
-    }
-    for column in 0..8 {
-        cases.read(&flipped(&block, &[(63, column)]));
-    }
-
-    // every two bits wrong
-    let block = random_block(random, 3);
-    let all = places(3);
-    for (i, &first) in all.iter().enumerate() {
-        for &second in &all[i + 1..] {
-            cases.read(&flipped(&block, &[first, second]));
-        }
-    }
-
-    // one odd row and three odd columns, three odd rows and one odd column
-    let block = random_block(random, 4);
-    for row in 0..4 {
-        for a in 0..8 {
-            for b in a + 1..8 {
-                for c in b + 1..8 {
-                    cases.read(&flipped(&block, &[(row, a), (row, b), (row, c)]));
-                }
-            }
-        }
-    }
-    let block = random_block(random, 5);
-    for column in 0..8 {
-        for a in 0..5 {
-            for b in a + 1..5 {
-                for c in b + 1..5 {
-                    cases.read(&flipped(&block, &[(a, column), (b, column), (c, column)]));
-                }
-            }
-        }
-    }
-
-    // every value of a data row, alone and among others
-    for row in 0..=255 {
-        cases.encode(&[row]);
-    }
-    for place in 0..5 {
-        for row in [126, 127, 128, 129, 255] {
-            let mut data = random.bytes(5, 128);
-            data[place] = row;
-            cases.encode(&data);
-        }
-    }
-
-    // random rows, and random blocks with some random bits wrong
-    for _ in 0..300 {
-        let rows = 2 + random.below(3);
-        let rows = random.bytes(rows, 256);
-        cases.read(&rows);
-    }
-    for i in 0..200 {
-        let rows = 2 + random.below(63);
-        let block = random_block(random, rows);
-        let wrong: Vec<(usize, usize)> = (0..i % 5).map(|_| (random.below(rows), random.below(8))).collect();
-        cases.read(&flipped(&block, &wrong));
-    }
-    for _ in 0..100 {
-        let rows = 1 + random.below(63);
-        cases.encode(&random.bytes(rows, 129));
-    }
-    (cases.stdin, cases.stdout)
 }

@@ -1,7 +1,5 @@
 //! The field of 64 elements by logarithms: a product adds exponents, and a quotient is looked for among all elements.
 
-use std::fmt::Write;
-
 /// The powers of 2 in order, each the one before it shifted and, where it leaves six bits, reduced by x^6 + x + 1.
 pub fn powers() -> [u8; 63] {
     let mut powers = [0; 63];
@@ -36,22 +34,4 @@ pub fn quotient(u: u8, v: u8) -> u8 {
     let all: Vec<u8> = (0..64).filter(|&w| product(v, w) == u).collect();
     assert_eq!(all.len(), 1);
     all[0]
-}
-
-/// What `field_table` prints: for each call a row for each first operand, two hexadecimal digits for each second one, and then
-/// how many of the 65,536 pairs of bytes are answered 0 and how many 2.
-pub fn table() -> String {
-    let calls: [(&str, fn(u8, u8) -> u8); 3] = [("sum", |u, v| u ^ v), ("product", product), ("quotient", quotient)];
-    let mut text = String::new();
-    for (name, call) in calls {
-        writeln!(text, "{name}").unwrap();
-        for u in 0..64 {
-            for v in 0..64 {
-                write!(text, "{:02x}", call(u, v)).unwrap();
-            }
-            writeln!(text).unwrap();
-        }
-        writeln!(text, "{} {}", 64 * 64, 256 * 256 - 64 * 64).unwrap();
-    }
-    text
 }

@@ -1,17 +1,11 @@
 //! The second program: the same rules by other methods, in another language, with no code shared.
 //!
-//! Build it and run it from the project's root:
+//! Build it and run it from the project's root; `/tmp/second --help` prints what it can be asked for:
 //!
-//!     rustc -O --edition 2021 -o /tmp/second second/main.rs && /tmp/second WHAT
-//!
-//! WHAT is one of these:
-//!
-//!     CRATE                                 writes the stored files `stdin` and `stdout` of a program crate anew; `git diff` then shows what differs
-//!     tray                                  prints the report of the tray file on standard input
-//!     compare PROGRAM TRAYS [SEED [FIRST]]  runs PROGRAM on so many random trays and stops at the first byte that is not the report's;
-//!                                           without SEED and FIRST it makes the trays of seed 1 from tray 0 on
+//!     rustc -O --edition 2021 -o /tmp/second second/main.rs && /tmp/second WORDS
 
 mod block;
+mod cases;
 mod code;
 mod compare;
 mod encoder;
@@ -26,6 +20,22 @@ mod tray;
 use std::io::{self, Read};
 use std::process::exit;
 use std::{env, fs};
+
+const HELP: &str = "The second program, from the project's root:
+
+    second cases                                 writes the stored files of crate `cases` anew, `stdin` and `stdout`; `git diff` then shows what differs
+    second bench_sheet                           the same for that crate, which reads nothing
+    second tray                                  prints the report of the tray file on standard input
+    second compare PROGRAM TRAYS [SEED [FIRST]]  runs PROGRAM on so many random trays and stops at the first byte that is not the report's;
+                                                 without SEED and FIRST it makes the trays of seed 1 from tray 0 on
+    second --help                                prints this
+";
+
+/// For words that are none of these.
+fn refuse() -> ! {
+    eprint!("{HELP}");
+    exit(2)
+}
 
 /// Writes what a program crate has to write.
 fn store(name: &str, stdout: &str) {
@@ -45,7 +55,7 @@ fn print_report() {
 }
 
 fn print_comparison(program: &str, trays: &str, seed: &str, first: &str) {
-    let [trays, seed, first] = [trays, seed, first].map(|number| number.parse().expect("TRAYS, SEED and FIRST are numbers"));
+    let [trays, seed, first] = [trays, seed, first].map(|number| number.parse().unwrap_or_else(|_| refuse()));
     match compare::compare(program, trays, seed, first) {
         Ok(summary) => println!("{summary}"),
         Err(difference) => {
@@ -59,20 +69,13 @@ fn main() {
     let arguments: Vec<String> = env::args().skip(1).collect();
     let words: Vec<&str> = arguments.iter().map(String::as_str).collect();
     match words[..] {
+        _ if words.contains(&"--help") => print!("{HELP}"),
         [name @ "bench_sheet"] => store(name, &sheet::rows()),
-        [name @ "block_cases"] => store_both(name, block::cases()),
-        [name @ "encoder_cases"] => store_both(name, encoder::cases()),
-        [name @ "field_table"] => store(name, &field::table()),
-        [name @ "line_cases"] => store_both(name, line::cases()),
-        [name @ "ring_cases"] => store_both(name, ring::cases()),
+        [name @ "cases"] => store_both(name, cases::stored()),
         ["tray"] => print_report(),
         ["compare", program, trays] => print_comparison(program, trays, "1", "0"),
         ["compare", program, trays, seed] => print_comparison(program, trays, seed, "0"),
         ["compare", program, trays, seed, first] => print_comparison(program, trays, seed, first),
-        _ => {
-            eprintln!("second CRATE | tray | compare PROGRAM TRAYS [SEED [FIRST]], from the project's root");
-            eprintln!("CRATE: bench_sheet block_cases encoder_cases field_table line_cases ring_cases");
-            exit(2);
-        }
+        _ => refuse(),
     }
 }

@@ -12,85 +12,20 @@ mod block;
 mod code;
 mod encoder;
 mod field;
+mod interface;
 mod line;
 mod random;
 mod refusals;
 mod ring;
 
 use code::{added, marks, with_errors, Code};
+use interface::*;
 use line::{number, random_addresses, random_errors, random_line};
 use random::Random;
 use refusals::*;
 use std::collections::BTreeMap;
 use std::fmt::Debug;
 use std::process::exit;
-
-#[repr(C)]
-struct Element {
-    answer: u8,
-    value: u8,
-}
-
-#[repr(C)]
-struct Line {
-    answer: u8,
-    distance: u8,
-    number: u16,
-}
-
-#[repr(C)]
-struct List {
-    answer: u8,
-    count: u8,
-}
-
-#[repr(C)]
-struct Ring {
-    answer: u8,
-    start: u8,
-    distance: u8,
-    number: u16,
-}
-
-#[repr(C)]
-struct Block {
-    answer: u8,
-    distance: u8,
-}
-
-#[repr(C)]
-struct Register {
-    held: [u8; 11],
-    count: u8,
-}
-
-#[repr(C)]
-struct Stepped {
-    after: Register,
-    answer: u8,
-}
-
-#[repr(C)]
-struct Checked {
-    checks: [u8; 11],
-    answer: u8,
-}
-
-extern "C" {
-    fn film_version() -> u32;
-    fn film_sum(u: u8, v: u8) -> Element;
-    fn film_product(u: u8, v: u8) -> Element;
-    fn film_quotient(u: u8, v: u8) -> Element;
-    fn film_encode_line(text: *const u8, text_len: usize, number: u16, out: *mut u8, out_len: usize) -> u8;
-    fn film_read_line(word: *const u8, word_len: usize, radius: u8, out: *mut u8, out_len: usize) -> Line;
-    fn film_read_line_wanted(word: *const u8, word_len: usize, radius: u8, wanted: u16, out: *mut u8, out_len: usize) -> Line;
-    fn film_list_ring(ring: *const u8, ring_len: usize, radius: u8, out: *mut u8, out_len: usize) -> List;
-    fn film_read_ring(ring: *const u8, ring_len: usize, radius: u8, out: *mut u8, out_len: usize) -> Ring;
-    fn film_encode_block(data: *const u8, data_len: usize, out: *mut u8, out_len: usize) -> u8;
-    fn film_read_block(rows: *const u8, rows_len: usize, out: *mut u8, out_len: usize) -> Block;
-    fn film_step(before: Register, c: u8) -> Stepped;
-    fn film_checks(taken: Register) -> Checked;
-}
 
 /// The version that the library has to tell. tools/tables writes it from version.txt.
 const VERSION: u32 = 1000000;

@@ -1,0 +1,68 @@
+//! The C interface of include/film.h, declared once more and not through a binding, so that a binding's mistake cannot hide one of the library.
+
+#[repr(C)]
+pub struct Element {
+    pub answer: u8,
+    pub value: u8,
+}
+
+#[repr(C)]
+pub struct Line {
+    pub answer: u8,
+    pub distance: u8,
+    pub number: u16,
+}
+
+#[repr(C)]
+pub struct List {
+    pub answer: u8,
+    pub count: u8,
+}
+
+#[repr(C)]
+pub struct Ring {
+    pub answer: u8,
+    pub start: u8,
+    pub distance: u8,
+    pub number: u16,
+}
+
+#[repr(C)]
+pub struct Block {
+    pub answer: u8,
+    pub distance: u8,
+}
+
+#[repr(C)]
+pub struct Register {
+    pub held: [u8; 11],
+    pub count: u8,
+}
+
+#[repr(C)]
+pub struct Stepped {
+    pub after: Register,
+    pub answer: u8,
+}
+
+#[repr(C)]
+pub struct Checked {
+    pub checks: [u8; 11],
+    pub answer: u8,
+}
+
+extern "C" {
+    pub fn film_version() -> u32;
+    pub fn film_sum(u: u8, v: u8) -> Element;
+    pub fn film_product(u: u8, v: u8) -> Element;
+    pub fn film_quotient(u: u8, v: u8) -> Element;
+    pub fn film_encode_line(text: *const u8, text_len: usize, number: u16, out: *mut u8, out_len: usize) -> u8;
+    pub fn film_read_line(word: *const u8, word_len: usize, radius: u8, out: *mut u8, out_len: usize) -> Line;
+    pub fn film_read_line_wanted(word: *const u8, word_len: usize, radius: u8, wanted: u16, out: *mut u8, out_len: usize) -> Line;
+    pub fn film_list_ring(ring: *const u8, ring_len: usize, radius: u8, out: *mut u8, out_len: usize) -> List;
+    pub fn film_read_ring(ring: *const u8, ring_len: usize, radius: u8, out: *mut u8, out_len: usize) -> Ring;
+    pub fn film_encode_block(data: *const u8, data_len: usize, out: *mut u8, out_len: usize) -> u8;
+    pub fn film_read_block(rows: *const u8, rows_len: usize, out: *mut u8, out_len: usize) -> Block;
+    pub fn film_step(before: Register, c: u8) -> Stepped;
+    pub fn film_checks(taken: Register) -> Checked;
+}

@@ -3,7 +3,7 @@ use mathlib.Core.Path.{_≡_, refl, sym, ap, ap₂, _∙_, subst}
 use mathlib.Core.Logic.{_⊎_, ⊎-elim}
 use mathlib.Core.List.{List}
 use Prim.Native.Nat.{ℕ, zero, suc, min, _+_, _-_, _*_, _/_, _%_, _^_, _<_, _≤_}
-use native.Mathlib.Nat.{div-div-eq-div-mul, pow-suc, pow-succ', div-one, add-zero, zero-div, div-eq-of-lt, le-of-eq, le-trans, lt-of-lt-of-le, mod-lt, pow-le-pow-right}
+use native.Mathlib.Nat.{pow-suc, div-one, add-zero, zero-div, div-eq-of-lt, le-of-eq, le-trans, lt-of-lt-of-le, mod-lt, pow-le-pow-right}
 use native.Mathlib.Omega.{arith}
 use lib.Count.{trailingZeros, under, trailing-le}
 use lib.Pow.{shr-shr, shr-le, field, mod-mod-pow}
@@ -19,6 +19,7 @@ use Rattle.lanes.proofs.Laws.{lane-lt, lane-zero, lane-suc, lane-after, lane-pa
 use Rattle.polynomial.specs.Sums.{weight, nonzero}
 use Rattle.polynomial.specs.Polynomial.{polyAt}
 use Rattle.planes.specs.Roots.{RootsOf}
+use Rattle.planes.proofs.Bits.{halved}
 use Rattle.planes.proofs.Theorems.{set-root, clear-other}
 use Rattle.code.proofs.Distances.{weight-le}
 use Rattle.mender.specs.declared.Pattern.{Pattern}
@@ -33,9 +34,6 @@ use Rattle.mender.proofs.Fractions.{window-is, slope-is, value-is-quoti
 use Rattle.mender.proofs.Valuing.{root-after}
 
 -- ---- the zeros below the lowest set bit
-
-halved : (n i : ℕ) → n / 2 / 2 ^ i ≡ n / 2 ^ suc i
-halved n i = div-div-eq-div-mul n 2 (2 ^ i) ∙ ap (λ (m : ℕ). n / m) (sym (pow-succ' 2 i))
 
 -- below it every bit is 0, and it is 1
 pub record Lowest (n t : ℕ) : Type 0 where

@@ -11,6 +11,7 @@ use lib.ListN.{length, getD, replicate, set, length-set, List·getD-eq-default}
 use lib.Seq.{getD-set-same, getD-set-other}
 use borrow.Author.Tests.{ne-eqb}
 use Rattle.numbers.proofs.Cases.{le-or-lt, same-or-not, pos-of-not-zero}
+use Rattle.numbers.proofs.Bits.{halved}
 use Rattle.field.specs.Field.{product, α, power}
 use Rattle.field.specs.Inside.{inverse}
 use Rattle.field.proofs.Totals.{total-same}
@@ -19,7 +20,6 @@ use Rattle.lanes.proofs.Laws.{lane-lt, lane-zero, lane-suc, lane-after, lane-pa
 use Rattle.polynomial.specs.Sums.{weight, nonzero}
 use Rattle.polynomial.specs.Polynomial.{polyAt}
 use Rattle.planes.specs.Roots.{RootsOf}
-use Rattle.planes.proofs.Bits.{halved}
 use Rattle.planes.proofs.Theorems.{set-root, clear-other}
 use Rattle.code.proofs.Distances.{weight-le}
 use Rattle.mender.specs.declared.Pattern.{Pattern}

@@ -6,6 +6,7 @@ use Prim.Native.Nat.{ℕ, _/_, _%_, _^_, _<_}
 use native.Mathlib.Nat.{mod-eq-of-lt}
 use native.Mathlib.Omega.{arith}
 use Rattle.numbers.proofs.Cases.{same-or-not}
+use Rattle.numbers.proofs.Bits.{same-in-all, same-telling}
 use Rattle.field.specs.Field.{α, power}
 use Rattle.polynomial.specs.Polynomial.{polyAt, Elements}
 use Rattle.polynomial.proofs.Division.{poly-small}
@@ -13,7 +14,6 @@ use Rattle.planes.specs.declared.Planes.{Planes}
 use Rattle.planes.specs.Roots.{RootsOf}
 use Rattle.planes.specs.Slices.{elementAt, Everywhere, Added, ZerosOf}
 use Rattle.planes.specs.Crossed.{Crossed}
-use Rattle.planes.proofs.Bits.{same-in-all, same-telling}
 
 module _ (p : List ℕ) (r : ℕ) (el : Elements p) (found : RootsOf p r) (l : ℕ) (h : l < 63) where
   whole : polyAt p (power α l) % 64 ≡ polyAt p (power α l)

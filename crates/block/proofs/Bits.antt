@@ -1,7 +1,7 @@
--- The ones of an exclusive or, and bytes known by their bits.
-use mathlib.Core.Path.{_≡_, refl, sym, ap, _∙_}
-use Prim.Native.Nat.{ℕ, zero, suc, _+_, _*_, _/_, _%_, _^_, _<_, _≤_, suc-le-suc}
-use native.Mathlib.Nat.{zero-lt-suc, pow-suc, div-div-eq-div-mul, mul-comm}
+-- The ones of an exclusive or, and of bytes.
+use mathlib.Core.Path.{_≡_, refl, ap, _∙_}
+use Prim.Native.Nat.{ℕ, zero, suc, _+_, _*_, _/_, _%_, _^_, _<_, _≤_}
+use native.Mathlib.Nat.{pow-suc}
 use native.Mathlib.Omega.{arith}
 use lib.Bits.{bitXor, bitAnd, xor-shr, xor-mod, and-shr, and-mod, xor-add-and}
 use lib.Count.{onesIn}
@@ -43,19 +43,6 @@ ones-none a h e = none 8 a h e
 -- the lowest bit of an exclusive or is the parity of the sum
 pub xor-bit : (a b : ℕ) → bitXor a b % 2 ≡ (a + b) % 2
 xor-bit a b = let h : bitXor a b + bitAnd a b * 2 ≡ a + b = xor-add-and a b in omega arith
-
--- numbers of n bits are equal when their bits are
-pub same-bits : (n a b : ℕ) → a < 2 ^ n → b < 2 ^ n → ((j : ℕ) → j < n → a / 2 ^ j % 2 ≡ b / 2 ^ j % 2) → a ≡ b
-same-bits zero a b ha hb h = omega arith
-same-bits (suc n) a b ha hb h =
-    let la : a < 2 ^ n * 2 = rw pow-suc at ha in
-    let lb : b < 2 ^ n * 2 = rw pow-suc at hb in
-    let l : a / 1 % 2 ≡ b / 1 % 2 = h 0 (zero-lt-suc n) in
-    let e : a / 2 ≡ b / 2 = same-bits n (a / 2) (b / 2) (omega arith) (omega arith) (λ j k. halved a j ∙ h (suc j) (suc-le-suc k) ∙ sym (halved b j)) in
-    omega arith
-  where
-    halved : (x j : ℕ) → x / 2 / 2 ^ j % 2 ≡ x / 2 ^ suc j % 2
-    halved x j = ap (λ (y : ℕ). y % 2) (div-div-eq-div-mul x 2 (2 ^ j) ∙ ap (λ (y : ℕ). x / y) (mul-comm 2 (2 ^ j) ∙ sym (pow-suc 2 j)))
 
 -- the ones of a number of n bits stand in its lowest n
 lowest : (n x : ℕ) → x < 2 ^ n → lib.Count.ones x ≡ onesIn n x

@@ -9,10 +9,11 @@ use lib.ListN.{length, getD, set}
 use lib.Count.{onesIn}
 use lib.Bits.{bitXor, xor-shr, xor-lt, xor-self, xor-comm}
 use Rattle.numbers.proofs.Range.{each, each-at}
+use Rattle.numbers.proofs.Bits.{same-bits}
 use Rattle.numbers.proofs.Xor.{xor-assoc, xor-undo}
 use Rattle.block.specs.Block.{Bytes, Block, ones, column, columnParity, Proper, distance}
 use Rattle.block.specs.Inside.{oddRows, summed, wanted}
-use Rattle.block.proofs.Bits.{ones-parity, xor-bit, same-bits}
+use Rattle.block.proofs.Bits.{ones-parity, xor-bit}
 
 -- bit j of the exclusive or is the parity of column j
 summed-column : (j : ℕ) (xs : List ℕ) → summed xs / 2 ^ j % 2 ≡ column j xs % 2

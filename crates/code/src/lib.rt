@@ -7,6 +7,10 @@ ghost use Rattle.code.specs.Promises.{TellsLine};
 ghost use Rattle.code.specs.Held.{eleven, lowered};
 ghost use Rattle.code.specs.Inside.{PowerSums};
 ghost use Rattle.code.specs.Packed.{Packed, Filled};
+use lanes::FIVE_LANES;
+use lanes::FOUR_LANES;
+use lanes::NINE_LANES;
+use lanes::SIX_LANES;
 
 // The power sums of a word: S_-5 to S_-1 and S_1 to S_5 in six-bit lanes, the first lowest, and S_0 beside them.
 pub struct PackedSums {
@@ -125,10 +129,10 @@ pub fn eleven_sums(word: &[u8]) -> Eleven
     let sums = packed_sums(word);
     let outer = sums.outer;
     Eleven {
-        first: outer % 1073741824
-            + (sums.middle % 64) as u64 * 1073741824
-            + outer / 1073741824 % 16777216 * 68719476736,
-        last: (outer / 18014398509481984 % 64) as u8,
+        first: outer % FIVE_LANES
+            + (sums.middle % 64) as u64 * FIVE_LANES
+            + outer / FIVE_LANES % FOUR_LANES * SIX_LANES,
+        last: (outer / NINE_LANES % 64) as u8,
     }
 }
 

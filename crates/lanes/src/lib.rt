@@ -14,8 +14,20 @@ const HIGH_BITS: u64 = 585610922974906400;
 
 const ALL_BUT_LOWEST: u64 = 1134621163263881150;
 
-// The least number that ten lanes do not hold.
-const TEN_LANES: u64 = 1152921504606846976;
+// The least number that so many lanes do not hold: 64 to that power.
+pub const TWO_LANES: u64 = 4096;
+
+pub const THREE_LANES: u64 = 262144;
+
+pub const FOUR_LANES: u64 = 16777216;
+
+pub const FIVE_LANES: u64 = 1073741824;
+
+pub const SIX_LANES: u64 = 68719476736;
+
+pub const NINE_LANES: u64 = 18014398509481984;
+
+pub const TEN_LANES: u64 = 1152921504606846976;
 
 // x times each of ten lanes.
 pub fn doubled(p: u64) -> u64

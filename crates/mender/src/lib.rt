@@ -1,6 +1,6 @@
 // Mending: from power sums to the errors that have them, and the nearest word with given sums.
 ghost use mathlib.Core.Path.{_≡_};
-ghost use Prim.Native.Nat.{suc, min, _/_, _<_, _≤_};
+ghost use Prim.Native.Nat.{suc, min, _/_, _^_, _<_, _≤_};
 ghost use lib.ListN.{length, getD};
 ghost use Rattle.refusal.specs.Promise.{Tells};
 ghost use Rattle.lanes.specs.Lanes.{lane};
@@ -13,6 +13,16 @@ ghost use Rattle.mender.specs.Rows.{UnitRows, PivotRow, Multiples, RowsC
 ghost use Rattle.mender.specs.Inside.{Agree, Nothing};
 ghost use Rattle.mender.specs.Values.{Placed, PlacesFrom, QuotientsIn, QuotientsAhead, QuotientNext, BothAt, Spread, InversesIn, Raised, NumeratorIn, DenominatorIn, FractionIn, Kills};
 use code::Eleven;
+use lanes::FIVE_LANES;
+use lanes::FOUR_LANES;
+use lanes::NINE_LANES;
+use lanes::SIX_LANES;
+use lanes::TEN_LANES;
+use lanes::THREE_LANES;
+use lanes::TWO_LANES;
+
+// In each of five lanes 1.
+const FIVE_ONES: u64 = 17043521;
 
 // A word that was found, and how many of its characters are not 0, or how far it lies.
 pub struct Mended {
@@ -118,7 +128,7 @@ fn repaired(word: &[u8], sums: Eleven, e: usize) -> Mended
 fn all_zero(sums: Eleven) -> bool
     ensures { λ r. ⌜ Tells (Clear (eleven sums)) r ⌝ }
 {
-    if sums.first % 1152921504606846976 != 0 {
+    if sums.first % TEN_LANES != 0 {
         return false;
     }
     if sums.last % 64 != 0 {
@@ -218,8 +228,8 @@ fn find(s: Eleven, c: usize, e: usize) -> Mended
 fn sixth_window(x: u64, s: Eleven) -> bool
     ensures { λ r. ⌜ Tells (sixth x (eleven s) ≡ 0) r ⌝ }
 {
-    let window = s.first / 1073741824 % 1073741824 + (s.last % 64) as u64 * 1073741824;
-    if lanes::sum_of(lanes::products(x / 1073741824, window)) != 0 {
+    let window = s.first / FIVE_LANES % FIVE_LANES + (s.last % 64) as u64 * FIVE_LANES;
+    if lanes::sum_of(lanes::products(x / FIVE_LANES, window)) != 0 {
         return false;
     }
     true
@@ -272,7 +282,7 @@ fn root_from(roots: u64, from: usize) -> usize
     requires { ⌜ from ≤ 63 ⌝ }
     ensures { λ r. ⌜ RootFrom roots from r ⌝ }
 {
-    let rest = (roots % 9223372036854775808 + 9223372036854775808) >> from;
+    let rest = (roots % planes::PAST_PLACES + planes::PAST_PLACES) >> from;
     from + u64::trailing_zeros(rest) as usize
 }
 
@@ -298,7 +308,7 @@ fn places_from(roots: u64, l: usize) -> u64
     let mut at = l;
     let mut i: usize = 0;
     while i < 5 {
-        x = x / 64 + places::power_of(at as u8) as u64 * 16777216;
+        x = x / 64 + places::power_of(at as u8) as u64 * FOUR_LANES;
         let after = root_from(roots, least(at + 1, 63));
         at = after;
         i += 1;
@@ -308,7 +318,7 @@ fn places_from(roots: u64, l: usize) -> u64
 
 // The values at five places: numerator by denominator, and once more times the place for each window of five that the locator may not combine to 0.
 fn quotients(f: u64, n: usize, x: u64) -> u64
-    requires { ⌜ (n ≤ 5) × (x < 1073741824) ⌝ }
+    requires { ⌜ (n ≤ 5) × (x < 64 ^ 5) ⌝ }
     ensures { λ r. ⌜ QuotientsIn f n x r ⌝ }
 {
     let both = both_at(f, x);
@@ -317,7 +327,7 @@ fn quotients(f: u64, n: usize, x: u64) -> u64
 
 // Numerator and denominator at five places, side by side, from the highest coefficient down.
 fn both_at(f: u64, x: u64) -> u64
-    requires { ⌜ x < 1073741824 ⌝ }
+    requires { ⌜ x < 64 ^ 5 ⌝ }
     ensures { λ r. ⌜ BothAt f x r ⌝ }
 {
     let twice = x + x * FIVE_LANES;
@@ -336,7 +346,7 @@ fn spread(f: u64, m: usize) -> u64
     ensures { λ r. ⌜ Spread f m r ⌝ }
 {
     let q = f >> (6 * m);
-    (q % 64 + q / FIVE_LANES % 64 * FIVE_LANES) * 17043521
+    (q % 64 + q / FIVE_LANES % 64 * FIVE_LANES) * FIVE_ONES
 }
 
 // The inverses of five lanes.
@@ -347,7 +357,7 @@ fn inverses(d: u64) -> u64
     let mut q = d;
     let mut i: usize = 0;
     while i < 5 {
-        r = r / 64 + field::inverse((q % 64) as u8) as u64 * 16777216;
+        r = r / 64 + field::inverse((q % 64) as u8) as u64 * FOUR_LANES;
         q = q / 64;
         i += 1;
     }
@@ -394,7 +404,7 @@ fn numerator(q: u64, s: [u8; 11], n: usize) -> u64
 fn denominator(q: u64) -> u64
     ensures { λ r. ⌜ DenominatorIn q r ⌝ }
 {
-    q / 64 % 64 + q / 262144 % 64 * 4096 + q / 1073741824 % 64 * 16777216
+    q / 64 % 64 + q / THREE_LANES % 64 * TWO_LANES + q / FIVE_LANES % 64 * FOUR_LANES
 }
 
 // Whether the first c sums agree.
@@ -430,12 +440,12 @@ fn word_added(word: &[u8], pattern: [u8; 63]) -> [u8; 63]
 fn lone_error(s: Eleven) -> Single
     ensures { λ r. ⌜ OneError (eleven s) r ⌝ }
 {
-    let value = (s.first / 1073741824 % 64) as u8;
+    let value = (s.first / FIVE_LANES % 64) as u8;
     if value == 0 {
         return no_single();
     }
-    let place = field::over((s.first / 68719476736 % 64) as u8, value);
-    let after = s.first / 64 % 18014398509481984 + (s.last % 64) as u64 * 18014398509481984;
+    let place = field::over((s.first / SIX_LANES % 64) as u8, value);
+    let after = s.first / 64 % NINE_LANES + (s.last % 64) as u64 * NINE_LANES;
     let turned = lanes::scale(s.first, place);
     if turned != after {
         return no_single();
@@ -459,13 +469,6 @@ fn no_single() -> Single
 
 // A row of the elimination is packed in one number: lanes 0 to 4 have what the row combines windows 0 to 4 to, and lanes 5 to 10 its coefficients.
 
-// The least number that five lanes do not hold, and six, and ten.
-const FIVE_LANES: u64 = 1073741824;
-
-const SIX_LANES: u64 = 68719476736;
-
-const TEN_LANES: u64 = 1152921504606846976;
-
 // The rows of degree 0 to e before any window, and rows of 0: the sums from the row's degree on, and 1 at that degree.
 fn unit_rows(sums: u64, e: usize) -> [u64; 6]
     requires { ⌜ e ≤ 5 ⌝ }
@@ -473,7 +476,7 @@ fn unit_rows(sums: u64, e: usize) -> [u64; 6]
 {
     let mut x = [0u64; 6];
     let mut q = sums;
-    let mut one: u64 = 16777216;
+    let mut one: u64 = FOUR_LANES;
     let mut i: usize = 0;
     while i <= e {
         one = one * 64;
@@ -509,7 +512,7 @@ fn pivot_row(x: [u64; 6], j: usize) -> usize
 
 // The first eight multiples of ten lanes.
 fn multiples(a: u64) -> [u64; 8]
-    requires { ⌜ a < 1152921504606846976 ⌝ }
+    requires { ⌜ a < 64 ^ 10 ⌝ }
     ensures { λ r. ⌜ Multiples a r ⌝ }
 {
     let b = lanes::scale(a, 2);

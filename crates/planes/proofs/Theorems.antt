@@ -1,15 +1,19 @@
--- What a caller reads from the bits where the coefficients are elements: a bit is 1 where the place is a root, and only there; and there is one such number.
-use mathlib.Core.Path.{_≡_, refl, sym, ap, _∙_}
+-- What a caller reads from the bits where the coefficients are elements: a bit is 1 where the place is a root, and only there; and that each function has one result.
+use mathlib.Core.Path.{_≡_, sym, _∙_}
 use mathlib.Core.List.{List}
-use mathlib.Core.Logic.{_⊎_, inl, inr, ⊎-elim}
-use Prim.Native.Nat.{ℕ, zero, suc, _*_, _/_, _%_, _^_, _<_}
-use native.Mathlib.Nat.{mod-eq-of-lt, div-div-eq-div-mul, div-one, pow-suc, pow-succ'}
+use mathlib.Core.Logic.{⊎-elim}
+use Prim.Native.Nat.{ℕ, _/_, _%_, _^_, _<_}
+use native.Mathlib.Nat.{mod-eq-of-lt}
 use native.Mathlib.Omega.{arith}
-use Rattle.numbers.proofs.Cases.{same-or-not, bit-lt}
+use Rattle.numbers.proofs.Cases.{same-or-not}
+use Rattle.numbers.proofs.Bits.{same-in-all, same-telling}
 use Rattle.field.specs.Field.{α, power}
 use Rattle.polynomial.specs.Polynomial.{polyAt, Elements}
 use Rattle.polynomial.proofs.Division.{poly-small}
+use Rattle.planes.specs.declared.Planes.{Planes}
 use Rattle.planes.specs.Roots.{RootsOf}
+use Rattle.planes.specs.Slices.{elementAt, Everywhere, Added, ZerosOf}
+use Rattle.planes.specs.Crossed.{Crossed}
 
 module _ (p : List ℕ) (r : ℕ) (el : Elements p) (found : RootsOf p r) (l : ℕ) (h : l < 63) where
   whole : polyAt p (power α l) % 64 ≡ polyAt p (power α l)
@@ -30,31 +34,33 @@ module _ (p : List ℕ) (r : ℕ) (el : Elements p) (found : RootsOf p r) (l : �
 
 -- ---- any two results are equal
 
-halved : (n i : ℕ) → n / 2 / 2 ^ i ≡ n / 2 ^ suc i
-halved n i = div-div-eq-div-mul n 2 (2 ^ i) ∙ ap (λ (m : ℕ). n / m) (sym (pow-succ' 2 i))
-
--- numbers of n bits that agree in each are the same
-same-bits : (n r s : ℕ) → r < 2 ^ n → s < 2 ^ n → ((l : ℕ) → l < n → r / 2 ^ l % 2 ≡ s / 2 ^ l % 2) → r ≡ s
-same-bits zero r s hr hs e = omega arith
-same-bits (suc n) r s hr hs e =
-    let p : 2 ^ suc n ≡ 2 ^ n * 2 = pow-suc 2 n in
-    let high : r / 2 ≡ s / 2 =
-    same-bits n (r / 2) (s / 2) (omega arith) (omega arith)
-    (λ l h. ap (λ (m : ℕ). m % 2) (halved r l) ∙ e (suc l) (omega arith) ∙ ap (λ (m : ℕ). m % 2) (sym (halved s l)))
-    in
-    let low : r % 2 ≡ s % 2 = ap (λ (m : ℕ). m % 2) (sym (div-one r)) ∙ e 0 (omega arith) ∙ ap (λ (m : ℕ). m % 2) (div-one s) in
-    omega arith
-
-bit-of : (b : ℕ) → b < 2 → (b ≡ 0) ⊎ (b ≡ 1)
-bit-of zero h = inl refl
-bit-of (suc zero) h = inr refl
-bit-of (suc (suc b)) h = absurd (omega arith)
-
 pub one-roots : (p : List ℕ) (r s : ℕ) → RootsOf p r → RootsOf p s → r ≡ s
-one-roots p r s f g = same-bits 63 r s (f .below) (g .below) (λ l h. agree l h (bit-of (r / 2 ^ l % 2) (bit-lt (r / 2 ^ l))) (bit-of (s / 2 ^ l % 2) (bit-lt (s / 2 ^ l))))
-  where
-    agree : (l : ℕ) → l < 63 → (r / 2 ^ l % 2 ≡ 0) ⊎ (r / 2 ^ l % 2 ≡ 1) → (s / 2 ^ l % 2 ≡ 0) ⊎ (s / 2 ^ l % 2 ≡ 1) → r / 2 ^ l % 2 ≡ s / 2 ^ l % 2
-    agree l h (inl a) (inl b) = a ∙ sym b
-    agree l h (inl a) (inr b) = absurd (f .other l h a (g .root l h b))
-    agree l h (inr a) (inl b) = absurd (g .other l h b (f .root l h a))
-    agree l h (inr a) (inr b) = a ∙ sym b
+one-roots p r s f g =
+    same-telling 63 (λ l. polyAt p (power α l) % 64 ≡ 0) r s (f .below) (g .below) (f .root) (f .other) (g .root) (g .other)
+
+pub one-zeros : (v : Planes) (r s : ℕ) → ZerosOf v r → ZerosOf v s → r ≡ s
+one-zeros v r s f g = same-telling 63 (λ l. elementAt v l ≡ 0) r s (f .below) (g .below) (f .zero) (f .other) (g .zero) (g .other)
+
+-- planes with the same element at every place are the same, word by word
+same-planes : (r s : Planes) → ((l : ℕ) → elementAt r l ≡ elementAt s l) → r ≡ s
+unfolding elementAt
+same-planes r s same = λ i.
+    record {
+      b0 = same-in-all (r .b0) (s .b0) (λ l. let e = same l in omega arith) i;
+      b1 = same-in-all (r .b1) (s .b1) (λ l. let e = same l in omega arith) i;
+      b2 = same-in-all (r .b2) (s .b2) (λ l. let e = same l in omega arith) i;
+      b3 = same-in-all (r .b3) (s .b3) (λ l. let e = same l in omega arith) i;
+      b4 = same-in-all (r .b4) (s .b4) (λ l. let e = same l in omega arith) i;
+      b5 = same-in-all (r .b5) (s .b5) (λ l. let e = same l in omega arith) i;
+    }
+
+pub one-sum : (u v r s : Planes) → Added u v r → Added u v s → r ≡ s
+one-sum u v r s f g = same-planes r s (λ l. f .at l ∙ sym (g .at l))
+
+-- y is b where the result is that of crossed_square
+pub one-crossed : (a x b y r s : Planes) → Crossed a x b y r → Crossed a x b y s → r ≡ s
+one-crossed a x b y r s f g = same-planes r s (λ l. f .at l ∙ sym (g .at l))
+
+-- any two results of everywhere have the same element at each of the 63 places; of the bit past them the contract says nothing
+pub one-everywhere : (c : ℕ) (r s : Planes) → Everywhere c r → Everywhere c s → (l : ℕ) → l < 63 → elementAt r l ≡ elementAt s l
+one-everywhere c r s f g l h = f .at l h ∙ sym (g .at l h)

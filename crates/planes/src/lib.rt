@@ -16,6 +16,11 @@ const PLACE_4: u64 = 4563957122512537104;
 
 const PLACE_5: u64 = 9127914245025074208;
 
+// A bit for each of the 63 places, and the bit past them.
+const ALL_PLACES: u64 = 9223372036854775807;
+
+pub const PAST_PLACES: u64 = 9223372036854775808;
+
 // Elements at 64 places: bit l of plane t is bit t of the element at l.
 pub struct Planes {
     pub b0: u64,
@@ -45,7 +50,7 @@ fn spread(c: u8) -> u64
     ensures { λ r. ⌜ Spread c r ⌝ }
 {
     let b = c as u64;
-    b % 2 * 9223372036854775807
+    b % 2 * ALL_PLACES
 }
 
 // The element c at each of 63 places.
@@ -174,5 +179,5 @@ pub fn zeros(v: Planes) -> u64
     ensures { λ r. ⌜ ZerosOf v r ⌝ }
 {
     let some = v.b0 | v.b1 | v.b2 | v.b3 | v.b4 | v.b5;
-    9223372036854775807 ^ (some % 9223372036854775808)
+    ALL_PLACES ^ (some % PAST_PLACES)
 }

@@ -1,5 +1,6 @@
--- The laws of starts and of the marks at them, the turns of the code, the ways out of listing and reading, and the theorems.
+-- The laws of starts, of recordings and of the marks at them, the turns of the code, the ways out of listing and reading, and the theorems.
 pub mod Placing
+pub mod Recording
 pub mod Marks
 pub mod Alone
 pub mod Those

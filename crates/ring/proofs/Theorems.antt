@@ -1,4 +1,4 @@
--- What is proved of rings, in the words of the rules: the word at a start, the list, the true start alone, a dark ring, the marks at the starts, and one result.
+-- What is proved of rings, in the words of the rules: the word at a start, a line's recording, the list, the true start alone, a dark ring, the marks at the starts, and one result.
 use mathlib.Core.Path.{_≡_, refl, sym, ap, ap₂, _∙_}
 use mathlib.Core.Logic.{inl}
 use mathlib.Core.List.{List, [], _∷_, _++_}
@@ -12,6 +12,7 @@ use Rattle.polynomial.specs.Sums.{nonzero, weight}
 use Rattle.code.specs.Word.{Characters, marks, Line, number, distance, listed, reversed}
 use Rattle.code.proofs.Words.{listed-long}
 use Rattle.code.proofs.Distances.{distance-weight, weight-added}
+use Rattle.code.proofs.Lines.{line-long}
 use Rattle.code.proofs.Turning.{turned-get, reversed-get}
 use Rattle.code.proofs.Theorems.{zero-line}
 use Rattle.line.specs.Promises.{Within}
@@ -21,9 +22,11 @@ use Rattle.ring.specs.declared.RingListing.the-variants as L
 use Rattle.ring.specs.declared.RingReading.{RingReading}
 use Rattle.ring.specs.declared.RingReading.the-variants as R
 use Rattle.ring.specs.Ring.{placed, Start, ListOf}
+use Rattle.ring.specs.Recording.{recorded}
 use Rattle.ring.specs.Promises.{listingNumbers, readingNumbers, listingTests, Lists, ListsRing, readingTests, ReadsAt, ReadsRing}
 use Rattle.ring.specs.Inside.{seen}
 use Rattle.ring.proofs.Placing.{kept, placed-forward, placed-backward, seen-placed, seen-zero}
+use Rattle.ring.proofs.Recording.{recorded-long, placed-recorded, recorded-only, recorded-apart}
 use Rattle.ring.proofs.Marks.{markDistances, mark-distance, marks-weight}
 use Rattle.ring.proofs.Alone.{starts-near, same-start, marks-of-start, start-of-marks}
 use Rattle.ring.proofs.Those.{At, one-those, those-entry, those-rise, those-all, one-of-those, all-those}
@@ -45,6 +48,27 @@ start-after-start ring m k = seen-placed m k ring
 
 pub start-itself : (m k : ℕ) → m < 126 → k < 126 → seen m k ≡ 0 → k ≡ m
 start-itself = seen-zero
+
+-- ---- the recording of a line at a start
+
+module _ (l : List ℕ) (line : Line l) where
+  -- at start k ring place (k + a) mod 63 holds address a
+  pub forward-recording : (k a : ℕ) → k < 63 → a < 63 → getD (recorded k l) ((k + a) % 63) 0 ≡ getD l a 0
+  forward-recording k a h i =
+      sym (forward-word (recorded k l) k a h i) ∙ ap (λ (w : List ℕ). getD w a 0) (placed-recorded k l (omega arith) (line-long l line))
+
+  -- at start 63 + s place (s - a) mod 63 holds it
+  pub backward-recording : (s a : ℕ) → s < 63 → a < 63 → getD (recorded (63 + s) l) ((s + 63 - a) % 63) 0 ≡ getD l a 0
+  backward-recording s a h i =
+      sym (backward-word (recorded (63 + s) l) s a i)
+      ∙ ap (λ (w : List ℕ). getD w a 0) (placed-recorded (63 + s) l (omega arith) (line-long l line))
+
+  -- so the word at that start is the line, and the recording is the only ring with that word there
+  pub recorded-word : (k : ℕ) → k < 126 → (length (recorded k l) ≡ 63) × (placed k (recorded k l) ≡ l)
+  recorded-word k h = (recorded-long k l, placed-recorded k l h (line-long l line))
+
+  pub one-recording : (ring : List ℕ) (k : ℕ) → k < 126 → length ring ≡ 63 → placed k ring ≡ l → ring ≡ recorded k l
+  one-recording ring k h long e = recorded-only k l h ring long e
 
 -- ---- the list of a ring, damaged, dark or noise
 
@@ -139,7 +163,7 @@ module _ (ring : List ℕ) (t : ℕ) (long : length ring ≡ 63) (characters : C
     record { start = k; only = only; within = within; shows = refl },
   )
 
--- ---- demand 3: the word at start k lies at distance e from the line l, e is at most the radius t, and e + t at most 3
+-- ---- the step below demand 3: the word at start k lies at distance e from the line l, e is at most the radius t, and e + t at most 3
 
 module _ (ring l : List ℕ) (k e t : ℕ) (long : length ring ≡ 63) (start : k < 126) (line : Line l) (apart : distance (placed k ring) l ≡ e)
     (within : e ≤ t) (together : e + t ≤ 3) where
@@ -165,6 +189,28 @@ module _ (ring l : List ℕ) (k e t : ℕ) (long : length ring ≡ 63) (start : 
         let q = one-reading ring t old r (R.Line k (number l) (distance (placed k ring) l)) x l p
         (reads-only-start ring t long characters (omega arith) old l k room true-start-alone (record { line = line; near = omega arith })) in
         (q .0 ∙ ap (R.Line k (number l)) apart, q .1)
+
+-- ---- demand 3: a line l, whatever its text, a start m, and a ring that differs from the line's recording at m in e places, e at most the radius t, and e + t at most 3
+
+module _ (l ring : List ℕ) (m e t : ℕ) (line : Line l) (start : m < 126) (long : length ring ≡ 63) (wrong : distance ring (recorded m l) ≡ e) (within : e ≤ t)
+    (together : e + t ≤ 3) where
+  apart-there : distance (placed m ring) l ≡ e
+  apart-there = recorded-apart m l start ring (line-long l line) long ∙ wrong
+
+  -- the list is m alone
+  pub recorded-alone : ListOf t ring (m ∷ [])
+  recorded-alone = true-start-alone ring l m e t long start line apart-there within together
+
+  module _ (characters : Characters ring) (old : List ℕ) where
+    -- every result of listing is a count of 1, the byte m, and the rest of the output as it was
+    pub lists-recorded : length old ≡ 126 → (r : RingListing) (x : List ℕ) → ListsRing ring t old (listingNumbers r) x
+        → (r ≡ L.Listed 1) × (x ≡ m ∷ drop 1 old)
+    lists-recorded = lists-true-start ring l m e t long start line apart-there within together characters old
+
+    -- every result of reading is the start m, the line's number, the distance e, and the line as the output
+    pub reads-recorded : length old ≡ 63 → (r : RingReading) (x : List ℕ) → ReadsRing ring t old (readingNumbers r) x
+        → (r ≡ R.Line m (number l) e) × (x ≡ l)
+    reads-recorded = reads-true-start ring l m e t long start line apart-there within together characters old
 
 -- ---- a dark ring: 63 zeros lie three characters from the marks, which are a line, at every start
 

@@ -131,6 +131,12 @@ static uint8_t product(uint8_t u, uint8_t v) { return u && v ? power[(logarithm[
 
 static uint8_t mark(int a) { return a == 52 ? 32 : a == 55 ? 8 : a == 62 ? 1 : 0; }
 
+/* Puts the marks on, or takes them off. */
+static void change_marks(uint8_t *word) {
+    for (int a = 0; a < 63; a++)
+        word[a] ^= mark(a);
+}
+
 /* All eleven power sums are 0 once the marks are off. */
 static int is_line(const uint8_t *word) {
     for (int j = -5; j <= 5; j++) {
@@ -204,6 +210,15 @@ static size_t take_length(size_t stated) {
     return take_two() % LONGEST;
 }
 
+/* A line of any text and number. */
+static void take_line(uint8_t *line) {
+    uint16_t number = take_two() % 4096;
+    line[50] = (uint8_t)(number / 64), line[51] = number % 64;
+    for (int a = 0; a < 50; a++)
+        line[a] = take() & 63;
+    complete(line);
+}
+
 /* A word of 63 bytes and the line it was made from, if it was: any bytes, any characters, or a line with characters changed. Two in
  * three are lines. At times one byte is set to anything. */
 typedef struct {
@@ -218,14 +233,10 @@ static made take_word(void) {
         for (int a = 0; a < 63; a++)
             m.word[a] = shape & 64 ? take() : take() & 63;
     } else {
-        uint16_t number = take_two() % 4096;
         uint8_t places[8], values[8];
         for (int i = 0; i < wrong; i++)
             places[i % 8] = take() % 63, values[i % 8] = take() & 63;
-        m.line[50] = (uint8_t)(number / 64), m.line[51] = number % 64;
-        for (int a = 0; a < 50; a++)
-            m.line[a] = take() & 63;
-        complete(m.line);
+        take_line(m.line);
         m.is_made = 1;
         memcpy(m.word, m.line, 63);
         for (int i = 0; i < wrong; i++)
@@ -360,6 +371,40 @@ static void read_line_calls(void) {
         HOLDS(w.number == r.number && w.distance == r.distance && memcmp(output.page + output.from, line, 63) == 0);
 }
 
+/* Reads a word that lies so far from its line. */
+static void read_made(const made *m, int apart, uint8_t radius, uint8_t place) {
+    uint8_t line[63];
+    film_line r = read_line(m, 63, radius, 63, place, line);
+    HOLDS(r.answer == (apart <= radius ? 0 : 6) && (r.answer != 0 || r.distance == apart));
+}
+
+/* Lines merged by exclusive or: three are a line, and two lack the marks of one. */
+static void merged_call(void) {
+    uint8_t three = take() & 1, radius = take() % 6, place = take(), line[63];
+    made m = {{0}, {0}, 1};
+    for (int i = 0; i < 2 + three; i++) {
+        take_line(line);
+        for (int a = 0; a < 63; a++)
+            m.word[a] ^= line[a];
+    }
+    memcpy(m.line, m.word, 63);
+    if (!three)
+        change_marks(m.line);
+    read_made(&m, three ? 0 : 3, radius, place);
+}
+
+/* A clean word turned or reversed: with the marks on it is a line. */
+static void moved_call(void) {
+    uint8_t start = take() % 126, radius = take() % 6, place = take(), clean[63];
+    made m = {{0}, {0}, 1};
+    take_line(clean);
+    change_marks(clean);
+    turned(clean, start, m.word);
+    change_marks(m.word);
+    memcpy(m.line, m.word, 63);
+    read_made(&m, 0, radius, place);
+}
+
 static void ring_calls(void) {
     size_t length = take_length(63), room = take_length(126), line_room = take_length(63);
     uint8_t radius = take() % 7, place = take(), start = take() % 126, seen = take();
@@ -487,9 +532,10 @@ int LLVMFuzzerInitialize(int *argc, char ***argv) {
 }
 
 int LLVMFuzzerTestOneInput(const uint8_t *data, size_t size) {
-    static void (*const calls[])(void) = {field_calls, register_calls, encode_line_call, read_line_calls, ring_calls, block_calls};
+    static void (*const calls[])(void) = {field_calls, register_calls, encode_line_call, read_line_calls,
+                                          merged_call, moved_call, ring_calls, block_calls};
     next = data;
     left = size;
-    calls[take() % 6]();
+    calls[take() % (sizeof calls / sizeof calls[0])]();
     return 0;
 }

@@ -3,6 +3,7 @@
 //! crates/cases/src/main.rt says what the format is. A file of second/cases/ has the cases of one kind. A new call is a constant here, and a file there or
 //! a function in one of them.
 
+mod adding;
 mod block;
 mod encoder;
 mod field;
@@ -84,7 +85,7 @@ impl Cases {
 /// What the program reads, and what it has to write.
 pub fn stored() -> (Vec<u8>, String) {
     let mut cases = Cases { code: Code::new(), count: 0, stdin: Vec::new(), stdout: String::new() };
-    for add_all in [field::add_all, encoder::add_all, line::add_all, ring::add_all, block::add_all] {
+    for add_all in [field::add_all, encoder::add_all, line::add_all, ring::add_all, block::add_all, adding::add_all] {
         add_all(&mut cases);
     }
     (cases.stdin, cases.stdout)

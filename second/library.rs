@@ -3,11 +3,12 @@
 //!
 //! tools/compare-library builds and runs it: library ROUNDS [SEED]. Each output lies between two rows of bytes that must stay, and so does each
 //! input, which must stay too. All pairs of operands are tried, every length up to 300, a byte that is too high at every place, and the rows of the
-//! bench sheet; the rest is random, the same in every run with that seed. At the end each call must have given each answer that it can give.
+//! bench sheet; the rest is random, lines merged by exclusive or among it, the same in every run with that seed. At the end each call must have given each answer that it can give.
 
 // Of the second program only what answers is called here; what writes the stored files is not.
 #![allow(dead_code)]
 
+mod adding;
 mod block;
 mod code;
 mod encoder;
@@ -310,6 +311,26 @@ impl Comparison {
         }
     }
 
+    /// Lines merged, and a clean word turned or reversed: each word is read, and the line that it is read as is encoded.
+    fn lines_added(&mut self) {
+        let count = 2 + self.random.below(4);
+        let wrong = self.random.below(if count % 2 == 0 { 3 } else { 6 });
+        let scans = adding::random_scans(&self.code, &mut self.random, count, wrong);
+        let line = random_line(&self.code, &mut self.random);
+        let (start, place) = (self.random.below(126), self.random.below(63));
+        for tried in [
+            adding::merged(&self.code, &scans),
+            adding::moved(&self.code, &line, start),
+            adding::reversed_twice(&self.code, &line, place),
+        ] {
+            for radius in 0..=5 {
+                self.read_line(&tried.word, radius, None, 63);
+                self.read_line(&tried.word, radius, Some(number(&tried.line)), 63);
+            }
+            self.encode_line(&tried.line[..50], number(&tried.line), 63);
+        }
+    }
+
     /// One random call of each kind.
     fn round(&mut self, rings: bool) {
         self.any_register();
@@ -356,6 +377,9 @@ fn main() {
     comparison.bench_rows();
     for i in 0..rounds {
         comparison.round(i % 8 == 0);
+        if i % 8 == 0 {
+            comparison.lines_added();
+        }
         if i % 64 == 0 {
             comparison.by_the_character();
         }

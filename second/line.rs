@@ -4,14 +4,14 @@ use crate::code::{distance, Code};
 use crate::random::Random;
 use crate::refusals;
 
-const UNTOUCHED: u8 = 170;
+pub const UNTOUCHED: u8 = 170;
 
 pub fn number(line: &[u8]) -> u16 {
     line[50] as u16 * 64 + line[51] as u16
 }
 
 /// The answer, the number, the distance, and the output.
-type Answer = (u8, u16, usize, Vec<u8>);
+pub type Answer = (u8, u16, usize, Vec<u8>);
 
 pub fn read(code: &Code, word: &[u8], radius: u8, wanted: Option<u16>, room: usize) -> Answer {
     let refused = |answer| (answer, 0, 0, vec![UNTOUCHED; room]);

@@ -4,6 +4,7 @@
 //!
 //!     rustc -O --edition 2021 -o /tmp/second second/main.rs && /tmp/second WORDS
 
+mod adding;
 mod block;
 mod cases;
 mod code;

@@ -4,7 +4,7 @@ use super::{Case, Cases, CHECKS, ENCODE_LINE, STEP};
 use crate::encoder::{encode, information, Register};
 use crate::random::Random;
 
-fn line(cases: &mut Cases, text: &[u8], number: u16, room: usize) {
+pub(super) fn line(cases: &mut Cases, text: &[u8], number: u16, room: usize) {
     let (answer, output) = encode(text, number, room);
     cases.add(Case { number, room, ..Case::new(ENCODE_LINE, text) }, &[answer as usize], &output);
 }

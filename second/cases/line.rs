@@ -5,7 +5,7 @@ use crate::code::{added, distance, marks, with_errors};
 use crate::line::{self, number, random_addresses, random_errors, random_line};
 use crate::random::Random;
 
-fn add(cases: &mut Cases, word: &[u8], radius: u8, wanted: Option<u16>, room: usize) {
+pub(super) fn add(cases: &mut Cases, word: &[u8], radius: u8, wanted: Option<u16>, room: usize) {
     let (answer, number, distance, output) = line::read(&cases.code, word, radius, wanted, room);
     let call = if wanted.is_some() { READ_LINE_WANTED } else { READ_LINE };
     let case = Case { small: radius, number: wanted.unwrap_or(0), room, ..Case::new(call, word) };

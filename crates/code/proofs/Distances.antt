@@ -13,7 +13,7 @@ use Rattle.field.proofs.Laws
 use Rattle.polynomial.specs.Sums.{nonzero, weight, Zeros}
 use Rattle.polynomial.proofs.Vandermonde.{nonzero-le}
 use Rattle.code.specs.Word.{added, differs, distance}
-use Rattle.code.proofs.Words.{added-comm, added-both, added-twice, added-self, added-zeros}
+use Rattle.code.proofs.Words.{added-comm, added-four, added-both, added-twice, added-self, added-zeros}
 
 -- ---- the weight
 
@@ -95,6 +95,17 @@ triangle u w v hu hv =
     let p = distance-weight u w in
     let q = distance-comm w v ∙ distance-weight v w in
     let t = weight-added (added u w) (added v w) in
+    omega arith
+
+-- the distances of two words from two others add up, at most, when the two are added
+pub distance-sums : (a b u v : List ℕ) → distance (added a b) (added u v) ≤ distance a u + distance b v
+distance-sums a b u v =
+    let e : distance (added a b) (added u v) ≡ weight (added (added a u) (added b v)) =
+    distance-weight (added a b) (added u v) ∙ ap weight (added-four a b u v)
+    in
+    let p = distance-weight a u in
+    let q = distance-weight b v in
+    let t = weight-added (added a u) (added b v) in
     omega arith
 
 differs-le : (c d : ℕ) → differs (eqb c d) ≤ 1

@@ -11,4 +11,5 @@ pub mod Apart
 pub mod Address
 pub mod Orders
 pub mod Turning
+pub mod Adding
 pub mod Theorems

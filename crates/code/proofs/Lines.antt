@@ -4,14 +4,14 @@ use mathlib.Core.List.{List}
 use Prim.Native.Nat.{ℕ, _+_, _<_, _≤_}
 use native.Mathlib.Nat.{le-of-eq}
 use native.Mathlib.Omega.{arith}
-use lib.ListN.{length, getD}
+use lib.ListN.{length, getD, replicate}
 use lib.Dec.{T, ltb, ltb→lt}
 use Rattle.numbers.proofs.Range.{each, each-at}
 use Rattle.field.specs.Field.{sum}
 use Rattle.field.proofs.Laws
-use Rattle.polynomial.specs.Sums.{weight, Zeros}
+use Rattle.polynomial.specs.Sums.{nonzero, weight, Zeros}
 use Rattle.polynomial.proofs.Theorems.{vanishing-sums}
-use Rattle.code.specs.Word.{Characters, powerSum, Clean, added, marks, Line}
+use Rattle.code.specs.Word.{Characters, powerSum, Clean, added, marks, Line, text, number}
 use Rattle.code.proofs.Words.{characters-below, length-added, characters-added, added-twice}
 use Rattle.code.proofs.Sums.{places, places-good, values-63, powerSum-moment, powerSum-added}
 
@@ -45,6 +45,19 @@ marks-test = tt
 pub marks-characters : Characters marks
 marks-characters =
     characters-below marks 63 (le-of-eq marks-long) (λ a h. ltb→lt (getD marks a 0) 64 (each-at 63 (λ a. ltb (getD marks a 0) 64) marks-test a h))
+
+pub marks-weight : weight marks ≡ 3
+unfolding weight nonzero marks
+marks-weight = refl
+
+-- they stand after the text and the number
+pub marks-text : text marks ≡ replicate 50 0
+unfolding marks
+marks-text = refl
+
+pub marks-number : number marks ≡ 0
+unfolding marks
+marks-number = refl
 
 -- ---- lines
 

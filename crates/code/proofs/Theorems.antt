@@ -1,20 +1,21 @@
--- What is proved of words and lines, in the paper's order: the address rule, the distance of 12, the line near a word, text and number, turning and reversing, and one result.
+-- What is proved of words and lines, in the paper's order: the address rule, the distance of 12, the line near a word, text and number, turning and reversing, words added, and one result.
 use mathlib.Core.Path.{_≡_, sym, ap, ap₂, _∙_}
 use mathlib.Core.Bool.{Bool}
 use mathlib.Core.Logic.{⊎-elim}
 use mathlib.Core.List.{List}
 use Prim.Native.Nat.{ℕ, _+_, _-_, _%_, _^_, _<_, _≤_}
 use native.Mathlib.Omega.{arith}
+use lib.Bits.{bitXor}
 use lib.ListN.{length, getD, replicate, take}
 use lib.Seq.{ext-getD}
 use Rattle.refusal.proofs.Theorems.{one-verdict}
 use Rattle.numbers.proofs.Cases.{le-or-lt}
-use Rattle.field.specs.Field.{product, α, power, Log, Quotient}
+use Rattle.field.specs.Field.{sum, product, α, power, Log, Quotient}
 use Rattle.field.proofs.Laws
 use Rattle.lanes.specs.Lanes.{lane}
 use Rattle.lanes.proofs.Laws.{pack-same, pack-lanes}
 use Rattle.polynomial.specs.Sums.{weight}
-use Rattle.code.specs.Word.{powerSum, Clean, marks, Line, text, number, distance, turned, reversed}
+use Rattle.code.specs.Word.{powerSum, Clean, added, marks, Line, text, number, distance, turned, reversed}
 use Rattle.code.specs.Promises.{TellsLine}
 use Rattle.code.specs.declared.PackedSums.{PackedSums}
 use Rattle.code.specs.declared.Eleven.{Eleven}
@@ -23,11 +24,13 @@ use Rattle.code.specs.Inside.{PowerSums}
 use Rattle.code.specs.Packed.{Packed}
 use Rattle.code.proofs.Sums.{powerSum-lt}
 use Rattle.code.proofs.Distances
-use Rattle.code.proofs.Lines.{marks-line, line-long}
+use Rattle.code.proofs.Words
+use Rattle.code.proofs.Lines.{marks-line, line-long, line-characters}
 use Rattle.code.proofs.Apart
 use Rattle.code.proofs.Holding.{eleven-first, eleven-last}
 use Rattle.code.proofs.Address.{wrongAt, zeroth-sum, first-sum, sums-ratio, address-by-logs}
 use Rattle.code.proofs.Turning
+use Rattle.code.proofs.Adding
 
 -- v, which is not 0, added at address a of a clean word: S_0 is v and S_1 is v α^(62 - a),
 -- so the address of the one wrong character is 62 - (log S_1 - log S_0), modulo 63
@@ -107,6 +110,92 @@ turned-clean = Turning.clean-turned
 
 pub reversed-clean : (s : ℕ) (w : List ℕ) → Clean w → Clean (reversed s w)
 reversed-clean = Turning.clean-reversed
+
+-- and 63 characters reversed twice from one place are what they were
+pub reversed-twice : (s : ℕ) (w : List ℕ) → length w ≡ 63 → reversed s (reversed s w) ≡ w
+reversed-twice = Turning.reversed-twice
+
+-- ---- for a tool that merges lines by exclusive or
+
+-- the sum of two words of one length is their exclusive or, character by character
+pub exclusive-or : (u v : List ℕ) → length u ≡ length v → (a : ℕ) → getD (added u v) a 0 ≡ bitXor (getD u a 0) (getD v a 0)
+unfolding sum
+exclusive-or = Words.added-get
+
+-- in what order words are merged is of no account
+pub merged-either-way : (u v : List ℕ) → added u v ≡ added v u
+merged-either-way = Words.added-comm
+
+pub merged-in-any-groups : (u v w : List ℕ) → added (added u v) w ≡ added u (added v w)
+merged-in-any-groups = Words.added-assoc
+
+-- a word that is merged in twice goes away: where two of three lines are the same, the third is left
+pub merged-twice : (u v : List ℕ) → length u ≡ length v → added (added u v) v ≡ u
+merged-twice = Words.added-twice
+
+-- any three lines, all of them the same or two of them or none: a line, with the sum of their texts and the exclusive or of their numbers
+module _ (u v w : List ℕ) (lu : Line u) (lv : Line v) (lw : Line w) where
+  pub three-lines : Line (added (added u v) w)
+  three-lines = Adding.line-added (added u v) w (Adding.lines-added u v lu lv) lw
+
+  pub three-texts : text (added (added u v) w) ≡ added (added (text u) (text v)) (text w)
+  three-texts = Adding.text-added (added u v) w ∙ ap (λ (t : List ℕ). added t (text w)) (Adding.text-added u v)
+
+  pub three-numbers : number (added (added u v) w) ≡ bitXor (bitXor (number u) (number v)) (number w)
+  unfolding sum
+  three-numbers =
+      let two : Clean (added u v) = Adding.lines-added u v lu lv in
+      Adding.number-added (added u v) w (two .long ∙ sym (line-long w lw)) (two .characters) (line-characters w lw)
+      ∙ ap (λ (n : ℕ). sum n (number w))
+      (Adding.number-added u v (line-long u lu ∙ sym (line-long v lv)) (line-characters u lu) (line-characters v lv))
+
+-- any two lines, also one line twice: a clean word, and never a line
+module _ (u v : List ℕ) (lu : Line u) (lv : Line v) where
+  pub two-lines-clean : Clean (added u v)
+  two-lines-clean = Adding.lines-added u v lu lv
+
+  pub two-lines-never : Line (added u v) → ⊥
+  two-lines-never = Adding.never-both (added u v) two-lines-clean
+
+  -- no line is nearer than 3 characters; one is that near, the line with the sum of the texts and the exclusive or of the numbers
+  pub two-lines-apart : (l : List ℕ) → Line l → 3 ≤ distance (added u v) l
+  two-lines-apart l line = Adding.clean-apart (added u v) l two-lines-clean line
+
+  pub two-lines-marked : Line (added (added u v) marks)
+  two-lines-marked = three-lines u v marks lu lv zero-line
+
+  pub two-lines-near : distance (added u v) (added (added u v) marks) ≡ 3
+  two-lines-near = Adding.distance-marked (added u v) (two-lines-clean .long)
+
+  pub two-texts : text (added (added u v) marks) ≡ added (text u) (text v)
+  two-texts = Adding.text-marked (added u v) (two-lines-clean .long) ∙ Adding.text-added u v
+
+  pub two-numbers : number (added (added u v) marks) ≡ bitXor (number u) (number v)
+  unfolding sum
+  two-numbers =
+      Adding.number-marked (added u v) (two-lines-clean .long) (two-lines-clean .characters)
+      ∙ Adding.number-added u v (line-long u lu ∙ sym (line-long v lv)) (line-characters u lu) (line-characters v lv)
+
+-- the same of scans, with wrong characters: those of three add up at most, and two scans with e wrong in all are at least 3 - e from every line
+pub three-scans : (a b c u v w : List ℕ) → distance (added (added a b) c) (added (added u v) w) ≤ distance a u + distance b v + distance c w
+three-scans a b c u v w =
+    let p = Distances.distance-sums (added a b) c (added u v) w in
+    let q = Distances.distance-sums a b u v in
+    omega arith
+
+pub two-scans : (a b u v l : List ℕ) → length a ≡ 63 → length b ≡ 63 → Line u → Line v → Line l
+    → 3 ≤ distance (added a b) l + (distance a u + distance b v)
+two-scans a b u v l la lb lu lv line =
+    let d : length (added a b) ≡ 63 = Words.length-added a b (la ∙ sym lb) ∙ la in
+    let t : distance (added u v) l ≤ distance (added u v) (added a b) + distance (added a b) l =
+    Distances.triangle (added u v) (added a b) l (two-lines-clean u v lu lv .long ∙ sym d) (line-long l line ∙ sym d)
+    in
+    let s = Distances.distance-comm (added u v) (added a b) in
+    let p = Distances.distance-sums a b u v in
+    let q = two-lines-apart u v lu lv l line in
+    omega arith
+
+-- ---- one result
 
 -- the test for a line tells one thing, and there is one list of sums
 pub one-line-verdict : (w : List ℕ) (b c : Bool) → TellsLine w b → TellsLine w c → b ≡ c

@@ -90,6 +90,11 @@ reversed-reversed s r w =
     Orders.picked-picked (λ a. (s + 63 - a) % 63) (λ a. (r + 63 - a) % 63) w (Orders.reversed-order s)
     ∙ Orders.picked-same (λ a. (r + 63 - (s + 63 - a) % 63) % 63) (λ a. (r + (63 - s % 63) + a) % 63) w (λ a h. omega arith)
 
+-- from one place, a second reversing undoes the first
+pub reversed-twice : (s : ℕ) (w : List ℕ) → length w ≡ 63 → reversed s (reversed s w) ≡ w
+reversed-twice s w l =
+    reversed-reversed s s w ∙ sym (turned-mod (s + (63 - s % 63)) w) ∙ ap (λ (k : ℕ). turned k w) (omega arith) ∙ turned-none w l
+
 -- ---- the weight and the distance
 
 pub weight-turned : (k : ℕ) (w : List ℕ) → length w ≡ 63 → weight (turned k w) ≡ weight w

@@ -5,7 +5,7 @@ use mathlib.Core.List.{List, [], _∷_}
 use Prim.Native.Nat.{ℕ, zero, suc, _+_, _<_, _≤_}
 use native.Mathlib.Nat.{add-zero, zero-add, add-suc, suc-add, not-suc-le-zero, le-of-suc-le-suc}
 use native.Mathlib.Omega.{arith}
-use lib.ListN.{length, getD, List·getD-eq-default}
+use lib.ListN.{length, getD, replicate, take, List·getD-eq-default}
 use lib.Seq.{ext-getD}
 use Rattle.numbers.proofs.Cases.{le-or-lt}
 use Rattle.field.specs.Field.{sum}
@@ -57,6 +57,13 @@ added-get (c ∷ cs) [] h a = absurd (omega arith)
 added-get (c ∷ cs) (d ∷ ds) h zero = refl
 added-get (c ∷ cs) (d ∷ ds) h (suc a) = added-get cs ds (omega arith) a
 
+pub take-added : (n : ℕ) (u v : List ℕ) → take n (added u v) ≡ added (take n u) (take n v)
+unfolding added
+take-added zero u v = refl
+take-added (suc n) [] v = refl
+take-added (suc n) (c ∷ cs) [] = refl
+take-added (suc n) (c ∷ cs) (d ∷ ds) = cons refl (take-added n cs ds)
+
 pub characters-added : (u v : List ℕ) → Characters u → Characters v → Characters (added u v)
 unfolding added
 characters-added [] v hu hv a = omega arith
@@ -83,6 +90,13 @@ added-four a b c d =
     added-assoc a b (added c d)
     ∙ ap (added a) (sym (added-assoc b c d) ∙ ap (λ (w : List ℕ). added w d) (added-comm b c) ∙ added-assoc c b d)
     ∙ sym (added-assoc a c (added b d))
+
+-- zeros added change nothing
+pub added-none : (n : ℕ) (u : List ℕ) → length u ≡ n → added u (replicate n 0) ≡ u
+unfolding added
+added-none n [] h = refl
+added-none zero (c ∷ cs) h = absurd (omega arith)
+added-none (suc n) (c ∷ cs) h = cons (Laws.sum-zero c) (added-none n cs (omega arith))
 
 -- what is added twice goes away
 pub added-twice : (u v : List ℕ) → length u ≡ length v → added (added u v) v ≡ u

@@ -11,7 +11,6 @@ use Rattle.numbers.proofs.Cases.{le-or-lt}
 use Rattle.numbers.proofs.Range.{both, both-left, both-right, each, each-at}
 use Rattle.field.specs.Field.{product, α, power}
 use Rattle.field.proofs.Laws
-use Rattle.polynomial.specs.Sums.{nonzero, weight}
 use Rattle.code.specs.Word.{Characters, powerSum, marks, distance, listed, turned, reversed}
 use Rattle.code.specs.Inside.{PowerSums}
 use Rattle.code.proofs.Lines.{marks-long, marks-characters}
@@ -63,10 +62,6 @@ marks-far (suc k) h l = let b = at-least-four k (omega arith) in let e = mark-di
 pub marks-most : (k : ℕ) → k < 126 → distance (placed k marks) marks ≤ 6
 marks-most zero h = let e : distance (placed 0 marks) marks ≡ 0 = mark-distance 0 h ∙ first-distance in omega arith
 marks-most (suc k) h = let b = at-least-four k (omega arith) in let e = mark-distance (suc k) h in omega arith
-
-pub marks-weight : weight marks ≡ 3
-unfolding weight nonzero marks
-marks-weight = refl
 
 -- ---- the marks at their ring places
 

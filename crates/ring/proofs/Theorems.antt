@@ -12,7 +12,7 @@ use Rattle.polynomial.specs.Sums.{nonzero, weight}
 use Rattle.code.specs.Word.{Characters, marks, Line, number, distance, listed, reversed}
 use Rattle.code.proofs.Words.{listed-long}
 use Rattle.code.proofs.Distances.{distance-weight, weight-added}
-use Rattle.code.proofs.Lines.{line-long}
+use Rattle.code.proofs.Lines.{line-long, marks-weight}
 use Rattle.code.proofs.Turning.{turned-get, reversed-get}
 use Rattle.code.proofs.Theorems.{zero-line}
 use Rattle.line.specs.Promises.{Within}
@@ -27,7 +27,7 @@ use Rattle.ring.specs.Promises.{listingNumbers, readingNumbers, listingT
 use Rattle.ring.specs.Inside.{seen}
 use Rattle.ring.proofs.Placing.{kept, placed-forward, placed-backward, seen-placed, seen-zero}
 use Rattle.ring.proofs.Recording.{recorded-long, placed-recorded, recorded-only, recorded-apart}
-use Rattle.ring.proofs.Marks.{markDistances, mark-distance, marks-weight}
+use Rattle.ring.proofs.Marks.{markDistances, mark-distance}
 use Rattle.ring.proofs.Alone.{starts-near, same-start, marks-of-start, start-of-marks}
 use Rattle.ring.proofs.Those.{At, one-those, those-entry, those-rise, those-all, one-of-those, all-those}
 

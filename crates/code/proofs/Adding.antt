@@ -22,6 +22,7 @@ use Rattle.code.proofs.Lines.{
   marks-number,
   unmarked,
   line-long,
+  line-characters,
 }
 use Rattle.code.proofs.Apart.{clean-near}
 
@@ -53,6 +54,9 @@ unfolding sum
 number-added u v h cu cv =
     ap₂ (λ (x y : ℕ). x * 64 + y) (added-get u v h 50) (added-get u v h 51)
     ∙ sym (xor-block 6 (getD u 50 0) (getD v 50 0) (getD u 51 0) (getD v 51 0) (cu 51) (cv 51))
+
+pub lines-number : (u v : List ℕ) → Line u → Line v → number (added u v) ≡ sum (number u) (number v)
+lines-number u v lu lv = number-added u v (line-long u lu ∙ sym (line-long v lv)) (line-characters u lu) (line-characters v lv)
 
 module _ (w : List ℕ) (long : length w ≡ 63) where
   -- the marks change neither

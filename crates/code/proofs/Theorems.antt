@@ -25,7 +25,7 @@ use Rattle.code.specs.Packed.{Packed}
 use Rattle.code.proofs.Sums.{powerSum-lt}
 use Rattle.code.proofs.Distances
 use Rattle.code.proofs.Words
-use Rattle.code.proofs.Lines.{marks-line, line-long, line-characters}
+use Rattle.code.proofs.Lines.{clean-added, marks-line, line-long, line-characters}
 use Rattle.code.proofs.Apart
 use Rattle.code.proofs.Holding.{eleven-first, eleven-last}
 use Rattle.code.proofs.Address.{wrongAt, zeroth-sum, first-sum, sums-ratio, address-by-logs}
@@ -146,8 +146,11 @@ module _ (u v w : List ℕ) (lu : Line u) (lv : Line v) (lw : Line w) where
   three-numbers =
       let two : Clean (added u v) = Adding.lines-added u v lu lv in
       Adding.number-added (added u v) w (two .long ∙ sym (line-long w lw)) (two .characters) (line-characters w lw)
-      ∙ ap (λ (n : ℕ). sum n (number w))
-      (Adding.number-added u v (line-long u lu ∙ sym (line-long v lv)) (line-characters u lu) (line-characters v lv))
+      ∙ ap (λ (n : ℕ). sum n (number w)) (Adding.lines-number u v lu lv)
+
+-- no word is both clean and a line
+pub never-both : (w : List ℕ) → Clean w → Line w → ⊥
+never-both = Adding.never-both
 
 -- any two lines, also one line twice: a clean word, and never a line
 module _ (u v : List ℕ) (lu : Line u) (lv : Line v) where
@@ -155,7 +158,11 @@ module _ (u v : List ℕ) (lu : Line u) (lv : Line v) where
   two-lines-clean = Adding.lines-added u v lu lv
 
   pub two-lines-never : Line (added u v) → ⊥
-  two-lines-never = Adding.never-both (added u v) two-lines-clean
+  two-lines-never = never-both (added u v) two-lines-clean
+
+  -- added to a clean word they leave it clean, as by `three-lines` they leave a line a line: four lines are never a line, and five are one
+  pub two-lines-more : (c : List ℕ) → Clean c → Clean (added (added u v) c)
+  two-lines-more c clean = clean-added (added u v) c two-lines-clean clean
 
   -- no line is nearer than 3 characters; one is that near, the line with the sum of the texts and the exclusive or of the numbers
   pub two-lines-apart : (l : List ℕ) → Line l → 3 ≤ distance (added u v) l
@@ -172,9 +179,7 @@ module _ (u v : List ℕ) (lu : Line u) (lv : Line v) where
 
   pub two-numbers : number (added (added u v) marks) ≡ bitXor (number u) (number v)
   unfolding sum
-  two-numbers =
-      Adding.number-marked (added u v) (two-lines-clean .long) (two-lines-clean .characters)
-      ∙ Adding.number-added u v (line-long u lu ∙ sym (line-long v lv)) (line-characters u lu) (line-characters v lv)
+  two-numbers = Adding.number-marked (added u v) (two-lines-clean .long) (two-lines-clean .characters) ∙ Adding.lines-number u v lu lv
 
 -- the same of scans, with wrong characters: those of three add up at most, and two scans with e wrong in all are at least 3 - e from every line
 pub three-scans : (a b c u v w : List ℕ) → distance (added (added a b) c) (added (added u v) w) ≤ distance a u + distance b v + distance c w

@@ -3,7 +3,8 @@
 //!
 //! tools/compare-library builds and runs it: library ROUNDS [SEED]. Each output lies between two rows of bytes that must stay, and so does each
 //! input, which must stay too. All pairs of operands are tried, every length up to 300, a byte that is too high at every place, and the rows of the
-//! bench sheet; the rest is random, lines merged by exclusive or among it, the same in every run with that seed. At the end each call must have given each answer that it can give.
+//! bench sheet; the rest is random, lines merged by exclusive or among it, the same in every run with that seed. At the end each call must have given
+//! each answer that it can give.
 
 // Of the second program only what answers is called here; what writes the stored files is not.
 #![allow(dead_code)]

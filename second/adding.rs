@@ -1,6 +1,7 @@
 //! Lines merged by exclusive or, and clean words turned and reversed: the words that come out, and the line that each has to be read as.
 //!
-//! What is due is worked out without reading: the line comes from the first 52 characters of the lines that went in, its checks solved for.
+//! What is due is worked out without reading: the checks of a line are solved for from its first 52 characters, and those of lines merged are the sum
+//! of theirs.
 
 use crate::code::{added, distance, marks, with_errors, Code};
 use crate::line::{self, number, random_errors, random_line};

@@ -405,6 +405,37 @@ static void moved_call(void) {
     read_made(&m, 0, radius, place);
 }
 
+/* The start that begins at an address of the line recorded at a start, and goes in its direction or in the other. */
+static int start_at(int start, int address, int same_way) { return place_at(start, address) + ((start < 63) == same_way ? 0 : 63); }
+
+/* Whether start k of a line recorded at a start with no wrong character is listed. */
+static int undamaged_start(int start, int k, int radius) {
+    static const uint8_t other_way[6] = {41, 44, 47, 51, 54, 61}, same_way[6] = {3, 7, 10, 53, 56, 60};
+    int is = k == start;
+    for (int i = 0; i < 6; i++)
+        is |= (radius >= 4 && k == start_at(start, other_way[i], 0)) || (radius >= 5 && k == start_at(start, same_way[i], 1));
+    return is;
+}
+
+/* What is known of the list of a line recorded at a start with wrong characters: the true start is alone, or alone in its direction, or, with none wrong, where
+ * the others are. */
+static void list_holds(const uint8_t *starts, int count, int start, int wrong, int radius) {
+    if (wrong <= radius && wrong + radius <= 3)
+        HOLDS(count == 1 && starts[0] == start);
+    if (wrong <= radius && wrong + radius <= 4)
+        for (int i = 0; i < count; i++)
+            HOLDS(starts[i] == start || (starts[i] < 63) != (start < 63));
+    if (wrong == 0) {
+        int at = 0;
+        for (int k = 0; k < 126; k++) {
+            int listed = at < count && starts[at] == k;
+            at += listed;
+            HOLDS(listed == undamaged_start(start, k, radius));
+        }
+        HOLDS(count == (radius < 4 ? 1 : radius == 4 ? 7 : 13));
+    }
+}
+
 static void ring_calls(void) {
     size_t length = take_length(63), room = take_length(126), line_room = take_length(63);
     uint8_t radius = take() % 7, place = take(), start = take() % 126, seen = take();
@@ -449,8 +480,8 @@ static void ring_calls(void) {
         HOLDS(at == r.count);
         if (due == 0)
             HOLDS(one.answer == (r.count == 0 ? 6 : r.count == 1 ? 0 : 10) && (one.answer != 0 || one.start == starts[0]));
-        if (m.is_made && distance(m.word, m.line) <= radius && distance(m.word, m.line) + radius <= 3)
-            HOLDS(r.count == 1 && starts[0] == start);
+        if (m.is_made)
+            list_holds(starts, r.count, start, distance(m.word, m.line), radius);
     }
     free(starts);
     free(found);

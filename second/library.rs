@@ -3,8 +3,8 @@
 //!
 //! tools/compare-library builds and runs it: library ROUNDS [SEED]. Each output lies between two rows of bytes that must stay, and so does each
 //! input, which must stay too. All pairs of operands are tried, every length up to 300, a byte that is too high at every place, and the rows of the
-//! bench sheet; the rest is random, lines merged by exclusive or among it, the same in every run with that seed. At the end each call must have given
-//! each answer that it can give.
+//! bench sheet; the rest is random, lines merged by exclusive or and undamaged rings among it, the same in every run with that seed. At the end each call
+//! must have given each answer that it can give.
 
 // Of the second program only what answers is called here; what writes the stored files is not.
 #![allow(dead_code)]
@@ -13,8 +13,10 @@ mod adding;
 mod block;
 mod code;
 mod encoder;
+mod false_starts;
 mod field;
 mod interface;
+mod lent;
 mod line;
 mod random;
 mod refusals;
@@ -22,6 +24,7 @@ mod ring;
 
 use code::{added, marks, with_errors, Code};
 use interface::*;
+use lent::Lent;
 use line::{number, random_addresses, random_errors, random_line};
 use random::Random;
 use refusals::*;
@@ -49,30 +52,6 @@ const ANSWERS: [(&str, &[u8]); 12] = [
 ];
 
 const UNTOUCHED: u8 = 170;
-const SIDE: usize = 64;
-
-/// Bytes that are lent to the library, between two rows of others.
-struct Lent {
-    memory: Vec<u8>,
-    length: usize,
-}
-
-impl Lent {
-    fn new(bytes: &[u8]) -> Lent {
-        let sides: Vec<u8> = (0..SIDE).map(|i| 0x55 ^ i as u8).collect();
-        Lent { memory: [&sides, bytes, &sides].concat(), length: bytes.len() }
-    }
-
-    fn pointer(&mut self) -> *mut u8 {
-        self.memory[SIDE..].as_mut_ptr()
-    }
-
-    /// The bytes, or nothing where a byte beside them was changed.
-    fn back(&self) -> Option<&[u8]> {
-        let stayed = self.memory[..SIDE] == self.memory[SIDE + self.length..] && (0..SIDE).all(|i| self.memory[i] == 0x55 ^ i as u8);
-        stayed.then_some(&self.memory[SIDE..SIDE + self.length])
-    }
-}
 
 /// The numbers of a call, the answer first, and its output.
 type Due = (Vec<usize>, Vec<u8>);
@@ -332,6 +311,21 @@ impl Comparison {
         }
     }
 
+    /// Undamaged rings, and one whose direction is known.
+    fn starts_counted(&mut self) {
+        let (start, other, small) = (self.random.below(126), self.random.below(126), self.random.below(4) as u8);
+        let line = random_line(&self.code, &mut self.random);
+        let undamaged = |radius| (radius, false_starts::undamaged(&self.code, &line, start, radius));
+        let mut rings = vec![undamaged(small), undamaged(4), undamaged(5)];
+        let wrong = self.random.below(3);
+        let radius = (wrong + self.random.below(5 - 2 * wrong)) as u8;
+        rings.push((radius, false_starts::known_way(&self.code, &mut self.random, other, wrong, radius)));
+        for (radius, ring) in rings {
+            self.list_ring(&ring, radius, 126);
+            self.read_ring(&ring, radius, 63);
+        }
+    }
+
     /// One random call of each kind.
     fn round(&mut self, rings: bool) {
         self.any_register();
@@ -380,6 +374,7 @@ fn main() {
         comparison.round(i % 8 == 0);
         if i % 8 == 0 {
             comparison.lines_added();
+            comparison.starts_counted();
         }
         if i % 64 == 0 {
             comparison.by_the_character();

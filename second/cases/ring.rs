@@ -2,11 +2,13 @@
 
 use super::{Case, Cases, LIST_RING, READ_RING};
 use crate::code::{added, marks, with_errors};
+use crate::false_starts::marks_apart;
 use crate::line::{random_addresses, random_errors, random_line};
 use crate::random::Random;
 use crate::ring::{self, entries, recorded, word_at};
 
-fn add(cases: &mut Cases, ring: &[u8], radius: u8, list_room: usize, read_room: usize) {
+/// A ring is listed and read.
+pub fn add(cases: &mut Cases, ring: &[u8], radius: u8, list_room: usize, read_room: usize) {
     let (numbers, output) = ring::list(&cases.code, ring, radius, list_room);
     cases.add(Case { small: radius, room: list_room, ..Case::new(LIST_RING, ring) }, &numbers, &output);
     let (numbers, output) = ring::read(&cases.code, ring, radius, read_room);
@@ -72,8 +74,7 @@ fn errors_at_every_radius(cases: &mut Cases, random: &mut Random) {
 fn between_two_starts(cases: &mut Cases, random: &mut Random) {
     for turn in (1..126).filter(|&turn| turn % 5 == 0 || [3, 7, 53, 56, 104, 107, 114, 117, 124].contains(&turn)) {
         let line = random_line(&cases.code, random);
-        let other = added(&marks(), &recorded(&marks(), turn));
-        let apart: Vec<(usize, u8)> = (0..63).filter(|&a| other[a] != 0).map(|a| (a, other[a])).collect();
+        let apart = marks_apart(turn);
         assert!((4..=6).contains(&apart.len()));
         let half = apart.len().div_ceil(2);
         let ring = with_errors(&line, &apart[..half]);

@@ -14,7 +14,7 @@ use Rattle.line.specs.Promises.{Within}
 use Rattle.ring.specs.Ring.{placed, Start}
 use Rattle.ring.specs.Inside.{seen}
 use Rattle.ring.proofs.Placing.{kept, seen-placed, seen-lt, seen-zero}
-use Rattle.ring.proofs.Marks.{marks-far, marks-most}
+use Rattle.ring.proofs.Marks.{marks-far, marks-forward-far, marks-most}
 
 -- ---- a word w near a line, and its word at start j near another
 
@@ -80,6 +80,12 @@ module _ (ring l n : List ℕ) (m k e t : ℕ) (long : length ring ≡ 63) (hm :
   same-start small =
       let d : distance (placed (seen m k) marks) marks ≤ e + t = starts-near (omega arith) in
       seen-zero m k hm hk (marks-far (seen m k) (seen-lt m k) (omega arith))
+
+  -- at most 4 is enough where both go in one direction, for at each other forward start they lie 5 away or more
+  pub same-start-one-way : seen m k < 63 → e + t ≤ 4 → k ≡ m
+  same-start-one-way forward small =
+      let d : distance (placed (seen m k) marks) marks ≤ e + t = starts-near (omega arith) in
+      seen-zero m k hm hk (marks-forward-far (seen m k) forward (omega arith))
 
 -- ---- and back: the word of a line at start j lies as far from a line as the marks there from the marks
 

@@ -1,9 +1,10 @@
--- The laws of starts, of recordings and of the marks at them, the turns of the code, the ways out of listing and reading, and the theorems.
+-- The laws of starts, of recordings, of the marks at them and of false starts, the turns of the code, the ways out of listing and reading, and the theorems.
 pub mod Placing
 pub mod Recording
 pub mod Marks
 pub mod Alone
 pub mod Those
+pub mod FalseStarts
 pub mod Starts
 pub mod Filtering
 pub mod Turns

@@ -16,6 +16,7 @@ use Rattle.code.specs.Inside.{PowerSums}
 use Rattle.code.proofs.Lines.{marks-long, marks-characters}
 use Rattle.code.proofs.Turning
 use Rattle.ring.specs.Ring.{placed}
+use Rattle.ring.specs.FalseStarts.{fourAway, fiveAway}
 use Rattle.ring.specs.Inside.{seen, marksAt, MarkSums, TurnedBack}
 use Rattle.ring.proofs.Placing.{kept, placed-forward, placed-backward, placed-again, turned-same, reversed-same, seen-forward, seen-returning}
 
@@ -28,8 +29,7 @@ with-at (k ∷ ks) d l = set (with-at ks d l) k d
 
 -- 0 at start 0, 4 at six backward starts, 5 at six forward ones, and 6 at all others
 unfoldable pub markDistances : List ℕ
-markDistances =
-    with-at (104 ∷ 107 ∷ 110 ∷ 114 ∷ 117 ∷ 124 ∷ []) 4 (with-at (3 ∷ 7 ∷ 10 ∷ 53 ∷ 56 ∷ 60 ∷ []) 5 (0 ∷ replicate 125 6))
+markDistances = with-at fourAway 4 (with-at fiveAway 5 (0 ∷ replicate 125 6))
 
 distances-test : T (each 126 (λ k. eqb (distance (placed k marks) marks) (getD markDistances k 0)))
 unfolding placed turned reversed listed marks distance markDistances with-at
@@ -58,6 +58,18 @@ at-least-four k h =
 pub marks-far : (k : ℕ) → k < 126 → distance (placed k marks) marks ≤ 3 → k ≡ 0
 marks-far zero h l = refl
 marks-far (suc k) h l = let b = at-least-four k (omega arith) in let e = mark-distance (suc k) h in absurd (omega arith)
+
+forward-test : T (each 62 (λ k. leb 5 (getD markDistances (suc k) 0)))
+unfolding markDistances with-at
+forward-test = tt
+
+-- at every forward start but 0, 5 or 6
+pub marks-forward-far : (k : ℕ) → k < 63 → distance (placed k marks) marks ≤ 4 → k ≡ 0
+marks-forward-far zero h l = refl
+marks-forward-far (suc k) h l =
+    let b = leb→le 5 (getD markDistances (suc k) 0) (each-at 62 (λ k. leb 5 (getD markDistances (suc k) 0)) forward-test k (omega arith)) in
+    let e = mark-distance (suc k) (omega arith) in
+    absurd (omega arith)
 
 pub marks-most : (k : ℕ) → k < 126 → distance (placed k marks) marks ≤ 6
 marks-most zero h = let e : distance (placed 0 marks) marks ≡ 0 = mark-distance 0 h ∙ first-distance in omega arith

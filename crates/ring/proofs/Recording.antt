@@ -1,5 +1,5 @@
 -- The recording of a line at a start: it is the one ring whose word there is the line, and a ring differs from it as the ring's word there differs from the line.
-use mathlib.Core.Path.{_≡_, sym, ap, _∙_}
+use mathlib.Core.Path.{_≡_, sym, ap, _∙_, subst}
 use mathlib.Core.Bool.{Bool, cond}
 use mathlib.Core.Logic.{⊎-elim}
 use mathlib.Core.List.{List}
@@ -9,7 +9,7 @@ use lib.Dec.{ltb}
 use lib.ListN.{length}
 use borrow.Author.Tests.{lt-ltb, le-ltb}
 use Rattle.numbers.proofs.Cases.{le-or-lt}
-use Rattle.code.specs.Word.{distance, turned, reversed}
+use Rattle.code.specs.Word.{Characters, distance, turned, reversed}
 use Rattle.ring.specs.Ring.{placed}
 use Rattle.ring.specs.Recording.{recorded}
 use Rattle.ring.specs.Inside.{seen}
@@ -36,6 +36,9 @@ module _ (k : ℕ) (l : List ℕ) where
 
   pub recorded-long : length (recorded k l) ≡ 63
   recorded-long = ap length recorded-placed ∙ kept (seen k 0) .long l
+
+  pub recorded-characters : Characters l → Characters (recorded k l)
+  recorded-characters c = subst Characters (sym recorded-placed) (kept (seen k 0) .characters l c)
 
   module _ (start : k < 126) where
     pub placed-recorded : length l ≡ 63 → placed k (recorded k l) ≡ l

@@ -1,18 +1,21 @@
--- What is proved of rings, in the words of the rules: the word at a start, a line's recording, the list, the true start alone, a dark ring, the marks at the starts, and one result.
-use mathlib.Core.Path.{_≡_, refl, sym, ap, ap₂, _∙_}
+-- What is proved of rings, in the words of the rules and of the requests: the word at a start, a line's recording, the list, the true start alone, the false starts of an undamaged ring, a known direction, a dark ring, the marks at the starts, and one result.
+use mathlib.Core.Path.{_≡_, refl, sym, ap, ap₂, _∙_, subst}
+use mathlib.Core.Bool.{true, true≢false}
 use mathlib.Core.Logic.{inl}
-use mathlib.Core.List.{List, [], _∷_, _++_}
-use Prim.Native.Nat.{ℕ, _+_, _-_, _%_, _<_, _≤_}
+use mathlib.Core.List.{List, [], _∷_, _++_, append-assoc}
+use Prim.Native.Nat.{ℕ, suc, _+_, _-_, _%_, _<_, _≤_}
 use native.Mathlib.Nat.{le-of-eq}
 use native.Mathlib.Omega.{arith}
-use lib.ListN.{length, getD, replicate, drop}
-use Rattle.refusal.proofs.Laws.{one-refusal, refusal-positive}
+use lib.ListN.{length, getD, replicate, drop, length-append}
+use Rattle.refusal.specs.declared.Refusal.the-variants.{ManyStarts}
+use Rattle.refusal.specs.Number.{numberOf}
+use Rattle.refusal.proofs.Laws.{one-refusal, refusal-positive, one-answer}
 use Rattle.refusal.proofs.Theorems.{one-result, same-numbers}
 use Rattle.polynomial.specs.Sums.{nonzero, weight}
 use Rattle.code.specs.Word.{Characters, marks, Line, number, distance, listed, reversed}
 use Rattle.code.proofs.Words.{listed-long}
-use Rattle.code.proofs.Distances.{distance-weight, weight-added}
-use Rattle.code.proofs.Lines.{line-long, marks-weight}
+use Rattle.code.proofs.Distances.{distance-weight, distance-self, weight-added}
+use Rattle.code.proofs.Lines.{line-long, line-characters, marks-weight}
 use Rattle.code.proofs.Turning.{turned-get, reversed-get}
 use Rattle.code.proofs.Theorems.{zero-line}
 use Rattle.line.specs.Promises.{Within}
@@ -21,15 +24,18 @@ use Rattle.ring.specs.declared.RingListing.{RingListing}
 use Rattle.ring.specs.declared.RingListing.the-variants as L
 use Rattle.ring.specs.declared.RingReading.{RingReading}
 use Rattle.ring.specs.declared.RingReading.the-variants as R
-use Rattle.ring.specs.Ring.{placed, Start, ListOf}
+use Rattle.ring.specs.Ring.{placed, Start, Those, ListOf}
 use Rattle.ring.specs.Recording.{recorded}
+use Rattle.ring.specs.FalseStarts.{countedFrom, falseStarts, recordedStarts}
 use Rattle.ring.specs.Promises.{listingNumbers, readingNumbers, listingTests, Lists, ListsRing, readingTests, ReadsAt, ReadsRing}
 use Rattle.ring.specs.Inside.{seen}
-use Rattle.ring.proofs.Placing.{kept, placed-forward, placed-backward, seen-placed, seen-zero}
-use Rattle.ring.proofs.Recording.{recorded-long, placed-recorded, recorded-only, recorded-apart}
+use Rattle.ring.proofs.Placing.{kept, placed-forward, placed-backward, seen-placed, seen-zero, seen-forward, seen-backward}
+use Rattle.ring.proofs.Recording.{recorded-long, recorded-characters, placed-recorded, recorded-only, recorded-apart}
 use Rattle.ring.proofs.Marks.{markDistances, mark-distance}
-use Rattle.ring.proofs.Alone.{starts-near, same-start, marks-of-start, start-of-marks}
-use Rattle.ring.proofs.Those.{At, one-those, those-entry, those-rise, those-all, one-of-those, all-those}
+use Rattle.ring.proofs.Alone.{starts-near, same-start, same-start-one-way, marks-of-start, start-of-marks}
+use Rattle.ring.proofs.Those.{At, one-those, those-entry, those-rise, those-all, one-of-those, all-those, parts}
+use Rattle.ring.proofs.Ways.{many-starts}
+use Rattle.ring.proofs.FalseStarts.{counted-lt, seen-counted, counted-seen, starts-count, starts-many, these-starts}
 
 -- ---- the word at a start
 
@@ -154,6 +160,16 @@ module _ (ring : List ℕ) (t : ℕ) (long : length ring ≡ 63) (characters : C
   lists-list old starts room these =
       (inl (long, inl (room, inl (characters, inl (small, refl)))), record { starts = starts; these = these; count = refl; output = refl })
 
+  -- and every result of listing is such a list
+  pub listing-lists : (old : List ℕ) → length old ≡ 126 → (r : RingListing) (x : List ℕ) → ListsRing ring t old (listingNumbers r) x
+      → (starts : List ℕ) × ListOf t ring starts × (r ≡ L.Listed (length starts)) × (x ≡ starts ++ drop (length starts) old)
+  unfolding ListsRing
+  listing-lists old room (L.Listed n) x p =
+      let s = p .1 in (s .starts, s .these, ap (λ (l : List ℕ). L.Listed (getD l 0 0)) (s .count), s .output)
+  listing-lists old room (L.Refused s) x p =
+      absurd
+      (refusal-positive s (one-answer (listingTests ring t (length old)) (numberOf s) 0 (p .0) (inl (long, inl (room, inl (characters, inl (small, refl)))))))
+
   -- reading yields the line at the one start of a list with one entry
   pub reads-only-start : (old l : List ℕ) (k : ℕ) → length old ≡ 63 → ListOf t ring (k ∷ []) → Within t (placed k ring) l
       → ReadsRing ring t old (readingNumbers (R.Line k (number l) (distance (placed k ring) l))) l
@@ -211,6 +227,118 @@ module _ (l ring : List ℕ) (m e t : ℕ) (line : Line l) (start : m < 126) (lo
     pub reads-recorded : length old ≡ 63 → (r : RingReading) (x : List ℕ) → ReadsRing ring t old (readingNumbers r) x
         → (r ≡ R.Line m (number l) e) × (x ≡ l)
     reads-recorded = reads-true-start ring l m e t long start line apart-there within together characters old
+
+-- ---- an undamaged ring: a line l, whatever its text and number, a start m, the line's recording at m with no wrong character, and a radius t
+
+-- the start that is j counted from m is start j of the word at m, and every start of the ring is some start counted from m
+pub counted-start : (ring : List ℕ) (m j : ℕ) → m < 126 → j < 126 → placed (countedFrom m j) ring ≡ placed j (placed m ring)
+counted-start ring m j h l =
+    sym (seen-placed m (countedFrom m j) ring h (counted-lt m j)) ∙ ap (λ (i : ℕ). placed i (placed m ring)) (seen-counted m j h l)
+
+pub counted-back : (m k : ℕ) → m < 126 → k < 126 → countedFrom m (seen m k) ≡ k
+counted-back = counted-seen
+
+module _ (l : List ℕ) (m : ℕ) (line : Line l) (start : m < 126) where
+  module _ (t : ℕ) (small : t ≤ 5) where
+    -- the list is m and the false starts counted from it, in rising order
+    pub undamaged-list : ListOf t (recorded m l) (recordedStarts m t)
+    undamaged-list =
+        these-starts (recorded m l) m t (recorded-long m l) start small (subst Line (sym (placed-recorded m l start (line-long l line))) line)
+
+    -- it has an entry for each false start, and one more
+    pub undamaged-list-long : length (recordedStarts m t) ≡ suc (length (falseStarts t))
+    undamaged-list-long = starts-count m t start small
+
+    -- so every result of listing is that count, these starts, and the rest of the output as it was
+    pub lists-undamaged : (old : List ℕ) → length old ≡ 126 → (r : RingListing) (x : List ℕ) → ListsRing (recorded m l) t old (listingNumbers r) x
+        → (r ≡ L.Listed (suc (length (falseStarts t)))) × (x ≡ recordedStarts m t ++ drop (suc (length (falseStarts t))) old)
+    lists-undamaged old room r x p =
+        let q = one-listing (recorded m l) t old r (L.Listed (length (recordedStarts m t))) x (recordedStarts m t ++ drop (length (recordedStarts m t)) old) p
+        (lists-list (recorded m l) t (recorded-long m l) (recorded-characters m l (line-characters l line)) small old (recordedStarts m t) room undamaged-list) in
+        (q .0 ∙ ap L.Listed undamaged-list-long, q .1 ∙ ap (λ (n : ℕ). recordedStarts m t ++ drop n old) undamaged-list-long)
+
+    -- and from radius 4 on every result of reading is refusal 10
+    pub reads-undamaged : 4 ≤ t → (old : List ℕ) → length old ≡ 63 → (r : RingReading) (x : List ℕ) → ReadsRing (recorded m l) t old (readingNumbers r) x
+        → (r ≡ R.Refused ManyStarts) × (x ≡ old)
+    reads-undamaged large old room r x p =
+        one-reading (recorded m l) t old r (R.Refused ManyStarts) x old p
+        (let many = starts-many m t start large small in
+        many-starts (recorded m l) t old (recorded-long m l) room true
+        (record { holds = λ _. recorded-characters m l (line-characters l line); fails = λ e. absurd (true≢false e) }) refl small []
+        (length (recordedStarts m t)) (recordedStarts m t ++ drop (length (recordedStarts m t)) [])
+        (record { starts = recordedStarts m t; these = undamaged-list; count = refl; output = refl }) (λ e. omega arith) many)
+
+  module _ (old : List ℕ) (room : length old ≡ 126) (r : RingListing) (x : List ℕ) where
+    -- one start at radius 0 to 3
+    pub lists-one : (t : ℕ) → t ≤ 3 → ListsRing (recorded m l) t old (listingNumbers r) x → (r ≡ L.Listed 1) × (x ≡ m ∷ drop 1 old)
+    lists-one t small =
+        lists-recorded l (recorded m l) m 0 t line start (recorded-long m l) (distance-self (recorded m l)) (omega arith) (omega arith)
+        (recorded-characters m l (line-characters l line)) old room r x
+
+    -- seven at radius 4
+    pub lists-seven : ListsRing (recorded m l) 4 old (listingNumbers r) x → (r ≡ L.Listed 7) × (x ≡ recordedStarts m 4 ++ drop 7 old)
+    unfolding falseStarts
+    lists-seven = lists-undamaged 4 (omega arith) old room r x
+
+    -- thirteen at radius 5
+    pub lists-thirteen : ListsRing (recorded m l) 5 old (listingNumbers r) x → (r ≡ L.Listed 13) × (x ≡ recordedStarts m 5 ++ drop 13 old)
+    unfolding falseStarts
+    lists-thirteen = lists-undamaged 5 (omega arith) old room r x
+
+-- ---- where the direction is known: a line l, a start m, and a ring that differs from the line's recording at m in e places, e at most the radius t, and e + t at most 4
+
+module _ (l ring : List ℕ) (m e t : ℕ) (line : Line l) (start : m < 126) (long : length ring ≡ 63) (wrong : distance ring (recorded m l) ≡ e) (within : e ≤ t)
+    (together : e + t ≤ 4) where
+  there : Within e (placed m ring) l
+  there = record { line = line; near = le-of-eq (recorded-apart m l start ring (line-long l line) long ∙ wrong) }
+
+  listed-there : Start t ring m
+  listed-there = let h = there .near in (l, record { line = line; near = omega arith })
+
+  one-way : (k : ℕ) → k < 126 → seen m k < 63 → Start t ring k → k ≡ m
+  one-way k h same (n, other) = same-start-one-way ring l n m k e t long start h there other same together
+
+  -- forward: of the starts 0 to 62 m alone is listed
+  pub forward-alone : m < 63 → Those (Start t ring) 63 0 (m ∷ [])
+  forward-alone forward =
+      one-of-those (Start t ring) 63 0 m (record { least = omega arith; most = omega arith; has = listed-there })
+      (λ k other.
+      let h : k < 63 = let o = other .most in omega arith in
+      let s = seen-forward m k forward h in
+      one-way k (omega arith) (omega arith) (other .has))
+
+  -- and backward: of the starts 63 to 125
+  pub backward-alone : 63 ≤ m → Those (Start t ring) 63 63 (m ∷ [])
+  backward-alone backward =
+      one-of-those (Start t ring) 63 63 m (record { least = backward; most = omega arith; has = listed-there })
+      (λ k other.
+      let h : k < 126 = let o = other .most in omega arith in
+      let s = seen-backward m k backward (other .least) in
+      one-way k h (omega arith) (other .has))
+
+  module _ (characters : Characters ring) (old : List ℕ) (room : length old ≡ 126) (r : RingListing) (x : List ℕ) (lists : ListsRing ring t old (listingNumbers r) x) where
+    -- so every result of listing has the forward start m first, and then only starts from 63 on
+    pub lists-forward : m < 63 → (others : List ℕ) × Those (Start t ring) 63 63 others × (r ≡ L.Listed (suc (length others)))
+        × (x ≡ m ∷ (others ++ drop (suc (length others)) old))
+    lists-forward forward =
+        let (starts, these, count, output) = listing-lists ring t long characters (omega arith) old room r x lists in
+        let p = parts 63 63 refl these in
+        let e : starts ≡ m ∷ p .rest = p .is ∙ ap (λ (first : List ℕ). first ++ p .rest) (one-those (p .in-first) (forward-alone forward)) in
+        (p .rest, p .in-rest, count ∙ ap (λ (l : List ℕ). L.Listed (length l)) e, output ∙ ap (λ (l : List ℕ). l ++ drop (length l) old) e)
+
+    -- and the backward start m last, after only starts to 62
+    pub lists-backward : 63 ≤ m → (others : List ℕ) × Those (Start t ring) 63 0 others × (r ≡ L.Listed (suc (length others)))
+        × (x ≡ others ++ (m ∷ drop (suc (length others)) old))
+    lists-backward backward =
+        let (starts, these, count, output) = listing-lists ring t long characters (omega arith) old room r x lists in
+        let p = parts 63 63 refl these in
+        let e : starts ≡ p .first ++ (m ∷ []) = p .is ∙ ap (λ (rest : List ℕ). p .first ++ rest) (one-those (p .in-rest) (backward-alone backward)) in
+        let n : length starts ≡ suc (length (p .first)) = ap length e ∙ length-append (p .first) (m ∷ []) ∙ omega arith in (
+          p .first,
+          p .in-first,
+          count ∙ ap L.Listed n,
+          output ∙ ap₂ (λ (l : List ℕ) (n : ℕ). l ++ drop n old) e n ∙ append-assoc (p .first) (m ∷ []) (drop (suc (length (p .first))) old),
+        )
 
 -- ---- a dark ring: 63 zeros lie three characters from the marks, which are a line, at every start
 

@@ -1,7 +1,7 @@
--- The numbers of a range that have a property, listed: there is one list, it holds them all and no others, and it rises.
-use mathlib.Core.Path.{_≡_, refl, sym, ap, subst}
+-- The numbers of a range that have a property, listed: there is one list, it holds them all and no others, it rises, and it falls into the lists of two ranges.
+use mathlib.Core.Path.{_≡_, refl, sym, ap, subst, subst₂}
 use mathlib.Core.Logic.{_⊎_, ⊎-elim}
-use mathlib.Core.List.{List, [], _∷_}
+use mathlib.Core.List.{List, [], _∷_, _++_}
 use Prim.Native.Nat.{ℕ, zero, suc, _+_, _<_, _≤_}
 use native.Mathlib.Nat.{eq-or-lt-of-le, not-suc-le-zero, le-of-suc-le-suc}
 use native.Mathlib.Omega.{arith}
@@ -60,6 +60,50 @@ those-all (listed {k = k} {ks = ks} p s) j e =
 those-all {P} (not-listed {k = k} p s) j e =
     ⊎-elim (λ (q : k ≡ j). absurd (p (subst P (sym q) (e .has))))
     (λ (l : k < j). those-all s j (record { least = l; most = omega arith; has = e .has })) (eq-or-lt-of-le (e .least))
+
+-- ---- another property of the same numbers
+
+pub those-same : {P Q : ℕ → Type 0} {n k : ℕ} {ks : List ℕ} → ((j : ℕ) → j < k + n → P j → Q j) → ((j : ℕ) → j < k + n → Q j → P j) → Those P n k ks
+    → Those Q n k ks
+those-same to from end = end
+those-same to from (listed {k = k} p s) = listed (to k (omega arith) p) (those-same (λ j h. to j (omega arith)) (λ j h. from j (omega arith)) s)
+those-same to from (not-listed {k = k} d s) =
+    not-listed (λ q. d (from k (omega arith) q)) (those-same (λ j h. to j (omega arith)) (λ j h. from j (omega arith)) s)
+
+-- ---- the first a numbers, and those after them
+
+pub moved : {P : ℕ → Type 0} {n m k j : ℕ} {l : List ℕ} → n ≡ m → k ≡ j → Those P n k l → Those P m j l
+moved {P} {l = l} p q t = subst₂ (λ (n k : ℕ). Those P n k l) p q t
+
+pub record Parts (P : ℕ → Type 0) (a b k : ℕ) (ks : List ℕ) : Type 0 where
+  pub first : List ℕ
+  pub rest : List ℕ
+  pub in-first : Those P a k first
+  pub in-rest : Those P b (k + a) rest
+  pub is : ks ≡ first ++ rest
+
+pub parts : {P : ℕ → Type 0} {n k : ℕ} {ks : List ℕ} (a b : ℕ) → n ≡ a + b → Those P n k ks → Parts P a b k ks
+parts {ks = ks} zero b e s =
+    record { first = []; rest = ks; in-first = end; in-rest = moved (omega arith) (omega arith) s; is = refl }
+parts (suc a) b e end = absurd (omega arith)
+parts {P} (suc a) b e (listed {k = k} {ks = ks} p s) =
+    let r : Parts P a b (suc k) ks = parts a b (omega arith) s in
+    record {
+      first = k ∷ r .first;
+      rest = r .rest;
+      in-first = listed p (r .in-first);
+      in-rest = moved refl (omega arith) (r .in-rest);
+      is = ap (λ (l : List ℕ). k ∷ l) (r .is);
+    }
+parts {P} (suc a) b e (not-listed {k = k} {ks = ks} d s) =
+    let r : Parts P a b (suc k) ks = parts a b (omega arith) s in
+    record {
+      first = r .first;
+      rest = r .rest;
+      in-first = not-listed d (r .in-first);
+      in-rest = moved refl (omega arith) (r .in-rest);
+      is = r .is;
+    }
 
 -- ---- none has the property, one has it, all have it
 

@@ -1,5 +1,5 @@
 -- What the code of rings does, a turn and a way out at a time, over plain variables.
-use mathlib.Core.Path.{_≡_, refl, sym, ap, _∙_, subst, subst₂}
+use mathlib.Core.Path.{_≡_, refl, sym, ap, _∙_, subst}
 use mathlib.Core.Bool.{Bool, true, false, cond}
 use mathlib.Core.Logic.{⊎-elim}
 use mathlib.Core.List.{List, [], _∷_, _++_, append-nil, append-assoc}
@@ -25,6 +25,7 @@ use Rattle.ring.specs.Inside.{Listable, Mendable, placeOf}
 use Rattle.ring.specs.declared.Undecided.{Undecided}
 use Rattle.ring.specs.Filter.{marksOf, MarksAtAll, NoErrorsAt, Decides}
 use Rattle.ring.proofs.Placing.{kept, placed-forward, placed-backward}
+use Rattle.ring.proofs.Those.{moved}
 use Rattle.ring.proofs.Starts.{start-told}
 
 -- ---- whether errors have given sums
@@ -81,9 +82,6 @@ pub placed-all : (ring : List ℕ) (k : ℕ) (word : List ℕ) (a : ℕ) → Pla
 placed-all ring k word a t h = same-word word (placed k ring) (t .long) (kept k .long ring) (λ b l. t .done b (omega arith))
 
 -- ---- the list: the starts below k are listed, and whatever lists the rest completes the list
-
-moved : {P : ℕ → Type 0} {n m k j : ℕ} {l : List ℕ} → n ≡ m → k ≡ j → Those P n k l → Those P m j l
-moved {P} {l = l} p q t = subst₂ (λ (n k : ℕ). Those P n k l) p q t
 
 pub record ListedTo (ring : List ℕ) (t : ℕ) (old out sums : List ℕ) (n k : ℕ) : Type 0 where
   pub asked : Listable ring t (length old)

@@ -1,4 +1,4 @@
--- The recording of a line on a ring. The theorem of the true start begins with it; no promise needs it.
+-- The recording of a line on a ring. The theorems of the true start and of the false ones begin with it; no promise needs it.
 use mathlib.Core.Bool.{cond}
 use mathlib.Core.List.{List}
 use Prim.Native.Nat.{ℕ, _-_}

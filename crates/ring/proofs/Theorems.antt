@@ -26,7 +26,7 @@ use Rattle.ring.specs.declared.RingReading.{RingReading}
 use Rattle.ring.specs.declared.RingReading.the-variants as R
 use Rattle.ring.specs.Ring.{placed, Start, Those, ListOf}
 use Rattle.ring.specs.Recording.{recorded}
-use Rattle.ring.specs.FalseStarts.{countedFrom, falseStarts, recordedStarts}
+use Rattle.ring.specs.FalseStarts.{countedFrom, falseStarts, isIn, rising, recordedStarts}
 use Rattle.ring.specs.Promises.{listingNumbers, readingNumbers, listingTests, Lists, ListsRing, readingTests, ReadsAt, ReadsRing}
 use Rattle.ring.specs.Inside.{seen}
 use Rattle.ring.proofs.Placing.{kept, placed-forward, placed-backward, seen-placed, seen-zero, seen-forward, seen-backward}
@@ -284,6 +284,12 @@ module _ (l : List ℕ) (m : ℕ) (line : Line l) (start : m < 126) where
     pub lists-thirteen : ListsRing (recorded m l) 5 old (listingNumbers r) x → (r ≡ L.Listed 13) × (x ≡ recordedStarts m 5 ++ drop 13 old)
     unfolding falseStarts
     lists-thirteen = lists-undamaged 5 (omega arith) old room r x
+
+-- for a line recorded at start 0 these are the rows of the bench sheet
+pub sheet-starts : (recordedStarts 0 3 ≡ 0 ∷ []) × (recordedStarts 0 4 ≡ 0 ∷ 104 ∷ 107 ∷ 110 ∷ 114 ∷ 117 ∷ 124 ∷ [])
+    × (recordedStarts 0 5 ≡ 0 ∷ 3 ∷ 7 ∷ 10 ∷ 53 ∷ 56 ∷ 60 ∷ 104 ∷ 107 ∷ 110 ∷ 114 ∷ 117 ∷ 124 ∷ [])
+unfolding recordedStarts rising isIn falseStarts countedFrom
+sheet-starts = (refl, refl, refl)
 
 -- ---- where the direction is known: a line l, a start m, and a ring that differs from the line's recording at m in e places, e at most the radius t, and e + t at most 4
 

@@ -417,8 +417,8 @@ static int undamaged_start(int start, int k, int radius) {
     return is;
 }
 
-/* What is known of the list of a line recorded at a start with wrong characters: the true start is alone, or alone in its direction, or, with none wrong, where
- * the others are. */
+/* What is known of the list of a line recorded at a start: with few characters wrong, the true start is alone, or alone in its direction; with none, all of
+ * the list. */
 static void list_holds(const uint8_t *starts, int count, int start, int wrong, int radius) {
     if (wrong <= radius && wrong + radius <= 3)
         HOLDS(count == 1 && starts[0] == start);

@@ -17,7 +17,7 @@ const SAME_WAY: [usize; 6] = [3, 7, 10, 53, 56, 60];
 pub const EITHER_WAY_TIGHT: [(usize, u8); 3] = [(2, 2), (1, 3), (0, 4)];
 pub const ONE_WAY_TIGHT: [(usize, u8); 3] = [(2, 3), (1, 4), (0, 5)];
 
-pub fn is_forward(start: usize) -> bool {
+fn is_forward(start: usize) -> bool {
     start < 63
 }
 

@@ -298,29 +298,25 @@ module _ (l ring : List ℕ) (m e t : ℕ) (line : Line l) (start : m < 126) (lo
   there : Within e (placed m ring) l
   there = record { line = line; near = le-of-eq (recorded-apart m l start ring (line-long l line) long ∙ wrong) }
 
-  listed-there : Start t ring m
-  listed-there = let h = there .near in (l, record { line = line; near = omega arith })
-
-  one-way : (k : ℕ) → k < 126 → seen m k < 63 → Start t ring k → k ≡ m
-  one-way k h same (n, other) = same-start-one-way ring l n m k e t long start h there other same together
+  -- among the starts of a direction, which are those from the first on
+  alone-from : (first : ℕ) → first ≤ m → m < first + 63 → first + 63 ≤ 126 → ((k : ℕ) → first ≤ k → k < first + 63 → seen m k < 63)
+      → Those (Start t ring) 63 first (m ∷ [])
+  alone-from first least most all one-way =
+      let h = there .near in
+      one-of-those (Start t ring) 63 first m (record { least = least; most = most; has = (l, record { line = line; near = omega arith }) })
+      (λ k other.
+      let o = other .most in
+      same-start-one-way ring l (other .has .0) m k e t long start (omega arith) there (other .has .1) (one-way k (other .least) o) together)
 
   -- forward: of the starts 0 to 62 m alone is listed
   pub forward-alone : m < 63 → Those (Start t ring) 63 0 (m ∷ [])
   forward-alone forward =
-      one-of-those (Start t ring) 63 0 m (record { least = omega arith; most = omega arith; has = listed-there })
-      (λ k other.
-      let h : k < 63 = let o = other .most in omega arith in
-      let s = seen-forward m k forward h in
-      one-way k (omega arith) (omega arith) (other .has))
+      alone-from 0 (omega arith) (omega arith) (omega arith) (λ k least most. let s = seen-forward m k forward (omega arith) in omega arith)
 
   -- and backward: of the starts 63 to 125
   pub backward-alone : 63 ≤ m → Those (Start t ring) 63 63 (m ∷ [])
   backward-alone backward =
-      one-of-those (Start t ring) 63 63 m (record { least = backward; most = omega arith; has = listed-there })
-      (λ k other.
-      let h : k < 126 = let o = other .most in omega arith in
-      let s = seen-backward m k backward (other .least) in
-      one-way k h (omega arith) (other .has))
+      alone-from 63 backward (omega arith) (omega arith) (λ k least most. let s = seen-backward m k backward least in omega arith)
 
   module _ (characters : Characters ring) (old : List ℕ) (room : length old ≡ 126) (r : RingListing) (x : List ℕ) (lists : ListsRing ring t old (listingNumbers r) x) where
     -- so every result of listing has the forward start m first, and then only starts from 63 on

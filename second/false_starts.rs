@@ -33,13 +33,13 @@ fn beginning_at(start: usize, address: usize, same_way: bool) -> usize {
     (0..126).find(|&k| word_at(&ring, k) == word).expect("one of the 126 starts")
 }
 
-/// The starts that are listed of a ring on which the marks alone are recorded, and nothing else is wrong.
+/// The starts at which the marks, recorded at a start, lie within the radius of the marks.
 fn starts_of_marks(start: usize, radius: u8) -> Vec<usize> {
     let ring = recorded(&marks(), start);
     (0..126).filter(|&k| distance(&word_at(&ring, k), &marks()) <= radius as usize).collect()
 }
 
-/// The same by the addresses.
+/// The same starts by the addresses at which they begin.
 fn starts_by_address(start: usize, radius: u8) -> Vec<usize> {
     let of = |addresses: &[usize], same_way| -> Vec<usize> { addresses.iter().map(|&a| beginning_at(start, a, same_way)).collect() };
     let mut starts = vec![start];
@@ -89,6 +89,7 @@ pub fn tight(code: &Code, line: &[u8], start: usize, turn: usize, wrong: usize, 
     let listed = starts_read(code, &ring, radius);
     let other = beginning_at(start, turn % 63, is_forward(turn));
     assert!(other != start && listed.contains(&start) && listed.contains(&other));
+    assert_eq!(is_forward(other) == is_forward(start), is_forward(turn));
     ring
 }
 

@@ -1,7 +1,7 @@
 """Draws the starts of an undamaged ring, for the handbook: a line recorded at start 0, its true start and the twelve false ones.
 
-Where they lie is worked out from the marks alone: a false start is listed from that radius on which is the number of characters in which the marks, taken from
-there, differ from the marks."""
+Where they lie is worked out from the marks alone: where the marks, taken from a start, differ from the marks in four characters, that start is listed from
+radius 4 on, and so with five."""
 
 import math
 

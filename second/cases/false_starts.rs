@@ -33,14 +33,16 @@ fn known_ways(cases: &mut Cases, random: &mut Random) {
     }
 }
 
-/// The bounds of both rules passed by one: there is a second start, of the other direction or of the same.
+/// The bounds of both rules passed by one, of lines that run forward and backward: there is a second start, of the other direction or of the same.
 fn tight_rings(cases: &mut Cases, random: &mut Random) {
     for (pairs, apart) in [(EITHER_WAY_TIGHT, 4), (ONE_WAY_TIGHT, 5)] {
         for (wrong, radius) in pairs {
             for turn in turns_apart(apart) {
-                let line = random_line(&cases.code, random);
-                let given = tight(&cases.code, &line, random.below(63), turn, wrong, radius);
-                add(cases, &given, radius);
+                for direction in [0, 63] {
+                    let line = random_line(&cases.code, random);
+                    let given = tight(&cases.code, &line, direction + random.below(63), turn, wrong, radius);
+                    add(cases, &given, radius);
+                }
             }
         }
     }

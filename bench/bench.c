@@ -98,10 +98,10 @@ static void fec_list(const uint8_t *input, uint8_t radius, reply *r) {
     }
 }
 
-/* libfec has no parity blocks. The peer here is plain C: parities of rows and columns, one bit flipped at most. */
+/* libfec has no parity blocks. The peer here is plain C: parities of rows and columns, one bit flipped at most. A bit is set for each even column. */
 static void plain_block(const uint8_t *input, uint8_t radius, reply *r) {
     (void)radius;
-    uint8_t columns = 0;
+    uint8_t columns = 255;
     int odd = 0, row = 0;
     for (int i = 0; i < 9; i++) {
         columns ^= input[i];

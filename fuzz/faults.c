@@ -52,5 +52,15 @@ film_block __wrap_film_read_block(const uint8_t *rows, size_t rows_len, uint8_t 
     if (out_len != 0)
         ((volatile uint8_t *)out)[out_len] = 170;
 #endif
-    return __real_film_read_block(rows, rows_len, out, out_len);
+    film_block r = __real_film_read_block(rows, rows_len, out, out_len);
+#if FAULT == 9 /* dark film taken for a block of zeros */
+    size_t dark = 0;
+    while (dark < rows_len && rows[dark] == 0)
+        dark++;
+    if (r.answer == FILM_NO_BLOCK && dark == rows_len) {
+        memset(out, 0, out_len);
+        r.answer = FILM_DONE;
+    }
+#endif
+    return r;
 }

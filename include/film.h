@@ -24,7 +24,7 @@ extern "C" {
 
 /* ---- The version of this header. tools/tables writes its three numbers from version.txt. */
 
-#define FILM_VERSION_MAJOR 1
+#define FILM_VERSION_MAJOR 2
 #define FILM_VERSION_MINOR 0
 #define FILM_VERSION_PATCH 0
 #define FILM_VERSION (1000000 * FILM_VERSION_MAJOR + 1000 * FILM_VERSION_MINOR + FILM_VERSION_PATCH)
@@ -140,8 +140,8 @@ film_list film_list_ring(const uint8_t *ring, size_t ring_len, uint8_t radius, u
 film_ring film_read_ring(const uint8_t *ring, size_t ring_len, uint8_t radius, uint8_t *out, size_t out_len);
 
 /* ---- A block: 2 to 64 rows of eight bits; the lowest seven bits of all but the last row are data, the highest bit is the
- * row check, and the last row holds the column checks. It is proper when every row and every column holds an even number
- * of ones. */
+ * row check, and the last row holds the column checks. It is proper when every row holds an even number of ones and every
+ * column an odd number: dark film, all zeros, is no block. */
 
 typedef struct film_block {
     uint8_t answer;

@@ -5,14 +5,18 @@ use crate::refusals;
 
 const UNTOUCHED: u8 = 170;
 
+/// The rows of the bench sheet, and its numbers of rows.
+pub const BENCH_ROWS: [[u8; 2]; 4] = [[3, 252], [3, 253], [3, 3], [3, 0]];
+pub const BENCH_ROW_COUNTS: [usize; 4] = [1, 2, 64, 65];
+
 fn bit(rows: &[u8], row: usize, column: usize) -> u8 {
     (rows[row] >> column) & 1
 }
 
 fn is_proper(rows: &[u8]) -> bool {
     let row_is_even = |row| (0..8).filter(|&column| bit(rows, row, column) == 1).count() % 2 == 0;
-    let column_is_even = |column| (0..rows.len()).filter(|&row| bit(rows, row, column) == 1).count() % 2 == 0;
-    (0..rows.len()).all(row_is_even) && (0..8).all(column_is_even)
+    let column_is_odd = |column| (0..rows.len()).filter(|&row| bit(rows, row, column) == 1).count() % 2 == 1;
+    (0..rows.len()).all(row_is_even) && (0..8).all(column_is_odd)
 }
 
 pub fn flipped(rows: &[u8], bits: &[(usize, usize)]) -> Vec<u8> {
@@ -75,6 +79,11 @@ pub fn encoded(data: &[u8]) -> Vec<u8> {
     assert_eq!(last.len(), 1);
     block.push(last[0]);
     block
+}
+
+/// So many rows that would be proper if a block could have any number of them: zeros, and the column checks.
+pub fn no_data(rows: usize) -> Vec<u8> {
+    (1..=rows).map(|row| if row == rows { 255 } else { 0 }).collect()
 }
 
 pub fn encode(data: &[u8], room: usize) -> Answer {

@@ -6,6 +6,7 @@
 mod adding;
 mod block;
 mod encoder;
+mod even;
 mod false_starts;
 mod field;
 mod line;
@@ -86,7 +87,16 @@ impl Cases {
 /// What the program reads, and what it has to write.
 pub fn stored() -> (Vec<u8>, String) {
     let mut cases = Cases { code: Code::new(), count: 0, stdin: Vec::new(), stdout: String::new() };
-    let sections = [field::add_all, encoder::add_all, line::add_all, ring::add_all, block::add_all, adding::add_all, false_starts::add_all];
+    let sections = [
+        field::add_all,
+        encoder::add_all,
+        line::add_all,
+        ring::add_all,
+        block::add_all,
+        adding::add_all,
+        false_starts::add_all,
+        even::add_all,
+    ];
     for add_all in sections {
         add_all(&mut cases);
     }

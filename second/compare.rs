@@ -5,6 +5,7 @@
 
 use crate::block::{encoded, flipped};
 use crate::code::{added, marks, with_errors, Code};
+use crate::even::{even_block, BRIGHT, DARK};
 use crate::line::{random_addresses, random_errors, random_line};
 use crate::random::Random;
 use crate::ring::recorded;
@@ -124,11 +125,16 @@ impl Tray<'_> {
         }
     }
 
-    /// So many rows: random ones, or proper ones with up to three wrong bits, anywhere, in one row, or in one column.
+    /// So many rows: random ones; dark or bright ones; a block whose columns are even; or a proper one. The last two have up to three wrong bits, anywhere,
+    /// in one row, or in one column.
     fn rows(&mut self, count: usize) -> Vec<u8> {
-        if count == 0 || self.random.below(10) == 0 {
-            return self.random.bytes(count, 256);
-        }
+        let block = match self.random.below(20) {
+            _ if count == 0 => return Vec::new(),
+            0..=1 => return self.random.bytes(count, 256),
+            2 => return vec![[DARK, BRIGHT][self.random.below(2)]; count],
+            3 => even_block(&mut self.random, count),
+            _ => encoded(&self.random.bytes(count - 1, 128)),
+        };
         let (row, column) = (self.random.below(count), self.random.below(8));
         let wrong = [0, 0, 1, 1, 1, 2, 2, 3][self.random.below(8)];
         let kind = self.random.below(3);
@@ -139,7 +145,7 @@ impl Tray<'_> {
                 _ => ((row + i) % count, column),
             })
             .collect();
-        flipped(&encoded(&self.random.bytes(count - 1, 128)), &bits)
+        flipped(&block, &bits)
     }
 
     fn add(&mut self, part: &[u8]) {

@@ -3,8 +3,8 @@
 //!
 //! tools/compare-library builds and runs it: library ROUNDS [SEED]. Each output lies between two rows of bytes that must stay, and so does each
 //! input, which must stay too. All pairs of operands are tried, every length up to 300, a byte that is too high at every place, and the rows of the
-//! bench sheet; the rest is random, lines merged by exclusive or and undamaged rings among it, the same in every run with that seed. At the end each call
-//! must have given each answer that it can give.
+//! bench sheet; the rest is random, and the same in every run with that seed. second/library/requests.rs has what the change requests speak of. At the end
+//! each call must have given each answer that it can give.
 
 // Of the second program only what answers is called here; what writes the stored files is not.
 #![allow(dead_code)]
@@ -13,6 +13,7 @@ mod adding;
 mod block;
 mod code;
 mod encoder;
+mod even;
 mod false_starts;
 mod field;
 mod interface;
@@ -20,6 +21,8 @@ mod lent;
 mod line;
 mod random;
 mod refusals;
+#[path = "library/requests.rs"]
+mod requests;
 mod ring;
 
 use code::{added, marks, with_errors, Code};
@@ -33,7 +36,7 @@ use std::fmt::Debug;
 use std::process::exit;
 
 /// The version that the library has to tell. tools/tables writes it from version.txt.
-const VERSION: u32 = 1000000;
+const VERSION: u32 = 2000000;
 
 /// Each call, and every answer that it can give.
 const ANSWERS: [(&str, &[u8]); 12] = [
@@ -233,11 +236,11 @@ impl Comparison {
         for number in [0, 65, 4095, 4096] {
             self.encode_line(&[0; 50], number, 63);
         }
-        for rows in [[3, 3], [3, 2], [3, 0]] {
+        for rows in block::BENCH_ROWS {
             self.read_block(&rows, 2);
         }
-        for rows in [1, 2, 64, 65] {
-            self.read_block(&vec![0; rows], rows);
+        for rows in block::BENCH_ROW_COUNTS {
+            self.read_block(&block::no_data(rows), rows);
         }
         for count in [0, 51, 52, 53, 255] {
             for held in [0, 63, 64] {
@@ -291,41 +294,6 @@ impl Comparison {
         }
     }
 
-    /// Lines merged, and a clean word turned or reversed: each word is read, and the line that it is read as is encoded.
-    fn lines_added(&mut self) {
-        let count = 2 + self.random.below(4);
-        let wrong = self.random.below(if count % 2 == 0 { 3 } else { 6 });
-        let scans = adding::random_scans(&self.code, &mut self.random, count, wrong);
-        let line = random_line(&self.code, &mut self.random);
-        let (start, place) = (self.random.below(126), self.random.below(63));
-        for tried in [
-            adding::merged(&self.code, &scans),
-            adding::moved(&self.code, &line, start),
-            adding::reversed_twice(&self.code, &line, place),
-        ] {
-            for radius in 0..=5 {
-                self.read_line(&tried.word, radius, None, 63);
-                self.read_line(&tried.word, radius, Some(number(&tried.line)), 63);
-            }
-            self.encode_line(&tried.line[..50], number(&tried.line), 63);
-        }
-    }
-
-    /// Undamaged rings, and one whose direction is known.
-    fn starts_counted(&mut self) {
-        let (start, other, small) = (self.random.below(126), self.random.below(126), self.random.below(4) as u8);
-        let line = random_line(&self.code, &mut self.random);
-        let undamaged = |radius| (radius, false_starts::undamaged(&self.code, &line, start, radius));
-        let mut rings = vec![undamaged(small), undamaged(4), undamaged(5)];
-        let wrong = self.random.below(3);
-        let radius = (wrong + self.random.below(5 - 2 * wrong)) as u8;
-        rings.push((radius, false_starts::known_way(&self.code, &mut self.random, other, wrong, radius)));
-        for (radius, ring) in rings {
-            self.list_ring(&ring, radius, 126);
-            self.read_ring(&ring, radius, 63);
-        }
-    }
-
     /// One random call of each kind.
     fn round(&mut self, rings: bool) {
         self.any_register();
@@ -370,11 +338,13 @@ fn main() {
     comparison.lengths();
     comparison.high_bytes();
     comparison.bench_rows();
+    comparison.dark_and_bright();
     for i in 0..rounds {
         comparison.round(i % 8 == 0);
         if i % 8 == 0 {
             comparison.lines_added();
             comparison.starts_counted();
+            comparison.even_columns();
         }
         if i % 64 == 0 {
             comparison.by_the_character();

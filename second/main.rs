@@ -10,6 +10,7 @@ mod cases;
 mod code;
 mod compare;
 mod encoder;
+mod even;
 mod false_starts;
 mod field;
 mod line;

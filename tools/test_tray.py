@@ -21,7 +21,7 @@ SAMPLES = os.path.join(HERE, "..", "samples")
 
 Z = bytes(52) + bytes([32, 0, 0, 8, 0, 0, 0, 0, 0, 0, 1])
 Z_WITH_5_AT_60 = bytes(52) + bytes([32, 0, 0, 8, 0, 0, 0, 0, 5, 0, 1])
-PAPER = bytes([5, 1]) + Z_WITH_5_AT_60 + bytes([1]) + Z + bytes([1, 2, 3, 2])
+PAPER = bytes([5, 1]) + Z_WITH_5_AT_60 + bytes([1]) + Z + bytes([1, 2, 3, 253])
 
 EXPONENT = {}
 power = 1
@@ -51,9 +51,14 @@ def at_start(ring, start):
     return bytes(ring[(start - 63 - a) % 63] for a in range(63))
 
 
-def is_proper(rows):
+def parities(rows):
+    """Those of the rows that occur, and those of the columns."""
     ones = [[row >> column & 1 for column in range(8)] for row in rows]
-    return all(sum(bits) % 2 == 0 for bits in ones) and all(sum(bits) % 2 == 0 for bits in zip(*ones))
+    return {sum(bits) % 2 for bits in ones}, {sum(bits) % 2 for bits in zip(*ones)}
+
+
+def is_proper(rows):
+    return parities(rows) == ({0}, {1})
 
 
 def word(description):
@@ -126,15 +131,15 @@ class Rings(unittest.TestCase):
 
 class Blocks(unittest.TestCase):
     def test_rows(self):
-        self.assertEqual(block("block 3 2"), [2, 3, 2])
+        self.assertEqual(block("block 3 253"), [2, 3, 253])
         self.assertEqual(block("block"), [0])
         self.assertEqual(block("block 9 7*3 255"), [5, 9, 7, 7, 7, 255])
         self.assertEqual(block("block 1*255"), [255] + [1] * 255)
-        self.assertEqual(block("block 3 2 wrong 1:1 0:4 wrong 0:8"), [2, 15, 3])
+        self.assertEqual(block("block 3 253 wrong 1:1 0:4 wrong 0:8"), [2, 15, 252])
 
     def test_data_rows_give_a_proper_block(self):
-        self.assertEqual(block("block data 3"), [2, 3, 3])
-        self.assertEqual(block("block data 1 wrong 1:3"), [2, 129, 130])
+        self.assertEqual(block("block data 3"), [2, 3, 252])
+        self.assertEqual(block("block data 1 wrong 1:3"), [2, 129, 125])
         chance = random.Random(2)
         for count in range(1, 64):
             data = [chance.randrange(128) for _ in range(count)]
@@ -147,7 +152,7 @@ class Blocks(unittest.TestCase):
 class Trays(unittest.TestCase):
     def test_the_papers_case(self):
         self.assertEqual(len(PAPER), 133)
-        self.assertEqual(make("radius 5\nline zero wrong 60:5\nring zero\nblock 3 2\n"), PAPER)
+        self.assertEqual(make("radius 5\nline zero wrong 60:5\nring zero\nblock 3 253\n"), PAPER)
 
     def test_counts_are_worked_out(self):
         self.assertEqual(make("radius 255"), bytes([255, 0, 0, 0]))
@@ -179,20 +184,32 @@ class Shown(unittest.TestCase):
             "ring hex " + "00" * 52 + "2000000800000000000001",
             "",
             "blocks 1",
-            "# block 0: hex 03 02; not proper as it stands",
-            "block 3 2",
+            "# block 0: hex 03 fd; not proper as it stands",
+            "block 3 253",
             "",
             "# The file is whole, and nothing is left over.",
             ""])
 
     def test_plain_forms(self):
         shown = show(make('radius 0\nline text "SAY ""HI"" #1" number 4095\nline text "AB" number 9 wrong 1:64\nline zero wrong 50:128\nline zero wrong 0:63 1:64\n'
-                          "block data 5 6\nblock 3 2\nblock\nblock 7\nblock 0*64\nblock 0*65"))
+                          "block data 5 6\nblock 3 253\nblock\nblock 7\nblock 0*63 255\nblock 0*64 255"))
         for comment in ('line 0: text "SAY ""HI"" #1" number 4095; a line', 'line 1: text "A~" number 9; no line as it stands',
                         'line 2: text "" no number; no line as it stands', 'line 3: text "_~" number 0; no line as it stands',
-                        "block 0: hex 05 06 03; proper", "block 1: hex 03 02; not proper as it stands", "block 2: not 2 to 64 rows",
-                        "block 3: hex 07; not 2 to 64 rows", "block 4: hex" + " 00" * 64 + "; proper", "block 5: hex" + " 00" * 65 + "; not 2 to 64 rows"):
+                        "block 0: hex 05 06 fc; proper", "block 1: hex 03 fd; not proper as it stands", "block 2: not 2 to 64 rows",
+                        "block 3: hex 07; not 2 to 64 rows", "block 4: hex" + " 00" * 63 + " ff; proper", "block 5: hex" + " 00" * 64 + " ff; not 2 to 64 rows"):
             self.assertIn("# " + comment, shown.split("\n"))
+
+    def test_what_is_said_of_a_block(self):
+        said = {(True, True): "proper", (True, False): "not proper: every column is even"}
+        chance = random.Random(3)
+        for count in range(2, 65):
+            made = block("block data " + " ".join(str(chance.randrange(128)) for _ in range(count - 1)))[1:]
+            inverted = made[:-1] + [255 - made[-1]]
+            wrong = made[:-1] + [made[-1] ^ 1 << chance.randrange(8)]
+            for rows in (made, inverted, wrong, [0] * count, [255] * count):
+                of_rows, of_columns = parities(rows)
+                due = said.get((of_rows == {0} and len(of_columns) == 1, of_columns == {1}), "not proper as it stands")
+                self.assertIn(f"; {due}\n", show(make("radius 0\nblock " + " ".join(map(str, rows)))))
 
     def test_the_papers_case_cut_at_every_length(self):
         stops = {0: "before the radius", 1: "before the count of lines", 2: "before line 0", 65: "before the count of rings", 66: "before ring 0",

@@ -11,7 +11,7 @@ A description has one statement on a row, in the order of the file. Empty rows a
     radius 5              the radius byte; it comes first
     line WORD             63 bytes to be read as a line
     ring WORD             63 bytes to be read as a ring
-    block 3 2             a block of these rows, 0 to 255 of them; 7*20 stands for twenty rows of 7
+    block 3 253           a block of these rows, 0 to 255 of them; 7*20 stands for twenty rows of 7
     block data 3 1        the proper block with these data rows, 1 to 63 of them, each at most 127
     lines 2               a section's count, before its items (also rings 2, blocks 2); it may be left out, and is worked out then
     cut 00 1F             the file stops here, after these bytes (or none) of what should come next; alone, it makes any file
@@ -88,9 +88,9 @@ def line(text, number):
 
 
 def block(data):
-    """The proper block with these data rows: the highest bit makes each row even, and the last row each column."""
+    """The proper block with these data rows: the highest bit makes each row even, and the last row makes each column odd."""
     rows = [row + 128 * (bin(row).count("1") % 2) for row in data]
-    return rows + [functools.reduce(lambda u, v: u ^ v, rows)]
+    return rows + [functools.reduce(lambda u, v: u ^ v, rows, 255)]
 
 
 # From a description to bytes. `words` holds what is not read yet of a row of the description; who reads a word takes it away.
@@ -307,8 +307,9 @@ def shown_block(rows):
     if not 2 <= len(rows) <= 64:
         what = "not 2 to 64 rows"
     else:
-        is_proper = list(rows) == block([row & 127 for row in rows[:-1]])
-        what = "proper" if is_proper else "not proper as it stands"
+        proper = bytes(block([row & 127 for row in rows[:-1]]))
+        even = proper[:-1] + bytes([proper[-1] ^ 255])
+        what = {proper: "proper", even: "not proper: every column is even"}.get(bytes(rows), "not proper as it stands")
     return f"hex {rows.hex(' ')}; {what}" if rows else what, " ".join(["block", *map(str, rows)])
 
 

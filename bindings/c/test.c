@@ -139,28 +139,46 @@ static void rings(void) {
 }
 
 static void blocks(void) {
-    static const uint8_t proper[] = {3, 3}, one_wrong[] = {3, 2}, far[] = {3, 0}, over[] = {127, 128};
+    static const uint8_t proper[] = {3, 252}, one_wrong[] = {3, 253}, even_columns[] = {3, 3}, far[] = {3, 0}, over[] = {127, 128};
     lend();
-    EXPECT(film_encode_block(proper, 1, out, 2) == FILM_DONE && out[0] == 3 && out[1] == 3 && kept_after(2));
+    EXPECT(film_encode_block(proper, 1, out, 2) == FILM_DONE && memcmp(out, proper, 2) == 0 && kept_after(2));
     film_block r = film_read_block(one_wrong, 2, out, 2);
     EXPECT(r.answer == 0 && r.distance == 1 && memcmp(out, proper, 2) == 0 && kept_after(2));
     r = film_read_block(proper, 2, out, 2);
     EXPECT(r.answer == 0 && r.distance == 0 && memcmp(out, proper, 2) == 0);
     lend();
+    EXPECT(refused_block(film_read_block(even_columns, 2, out, 2), FILM_NO_BLOCK));
     EXPECT(refused_block(film_read_block(far, 2, out, 2), FILM_NO_BLOCK));
     EXPECT(refused_block(film_read_block(NULL, 0, NULL, 0), FILM_ROW_COUNT));
     EXPECT(film_encode_block(NULL, 0, NULL, 0) == FILM_ROW_COUNT);
     EXPECT(film_encode_block(over, 2, out, 3) == FILM_VALUE_OVER && kept_after(0));
+}
+
+/* Every number of rows: blocks of no data, which are zeros and the column checks, and dark and bright film. */
+static void row_counts(void) {
+    uint8_t bright[ROOM], last_bright[ROOM] = {0};
+    memset(bright, 255, ROOM);
+    last_bright[ROOM - 1] = 255;
     for (size_t rows = 0; rows < ROOM; rows++) {
+        const uint8_t *no_data = last_bright + ROOM - rows;
         int taken = rows >= 2 && rows <= 64;
         lend();
-        r = film_read_block(zeros, rows, out, rows);
+        film_block r = film_read_block(no_data, rows, out, rows);
         EXPECT(r.answer == (taken ? FILM_DONE : FILM_ROW_COUNT) && r.distance == 0 && kept_after(taken ? rows : 0));
+        EXPECT(!taken || memcmp(out, no_data, rows) == 0);
         lend();
-        EXPECT(refused_block(film_read_block(zeros, rows, out, rows + 1), taken ? FILM_OUTPUT_LENGTH : FILM_ROW_COUNT));
+        EXPECT(refused_block(film_read_block(no_data, rows, out, rows + 1), taken ? FILM_OUTPUT_LENGTH : FILM_ROW_COUNT));
+        EXPECT(refused_block(film_read_block(zeros, rows, out, rows), taken ? FILM_NO_BLOCK : FILM_ROW_COUNT));
+        r = film_read_block(bright, rows, out, rows);
+        if (taken && rows % 2 == 1)
+            EXPECT(r.answer == FILM_DONE && r.distance == 0 && kept_after(rows) && memcmp(out, bright, rows) == 0);
+        else
+            EXPECT(refused_block(r, taken ? FILM_NO_BLOCK : FILM_ROW_COUNT));
         taken = rows >= 1 && rows <= 63;
+        lend();
         EXPECT(film_encode_block(zeros, rows, out, rows) == (taken ? FILM_OUTPUT_LENGTH : FILM_ROW_COUNT) && kept_after(0));
         EXPECT(film_encode_block(zeros, rows, out, rows + 1) == (taken ? FILM_DONE : FILM_ROW_COUNT) && kept_after(taken ? rows + 1 : 0));
+        EXPECT(!taken || memcmp(out, no_data - 1, rows + 1) == 0);
     }
 }
 
@@ -204,6 +222,7 @@ int main(void) {
     reading();
     rings();
     blocks();
+    row_counts();
     registers();
     printf("C: %d failed\n", failures);
     return failures != 0;

@@ -20,7 +20,7 @@ import pathlib
 from typing import NamedTuple, Optional
 
 # tools/tables writes this from version.txt, and the refusals below from refusals.txt.
-__version__ = "1.0.0"
+__version__ = "2.0.0"
 
 _u8 = ctypes.c_uint8
 _u16 = ctypes.c_uint16
@@ -231,13 +231,13 @@ def read_ring(ring, radius, out: Optional[bytearray] = None) -> RingRead:
 
 
 def encode_block(data, out: Optional[bytearray] = None) -> bytes:
-    """The one proper block with these 1 to 63 data rows."""
+    """The one proper block with these 1 to 63 data rows: every row holds an even number of ones, every column an odd number."""
     data = _bytes(data)
     return _call(_library.film_encode_block, data, room=len(data) + 1, out=out)[1]
 
 
 def read_block(rows, out: Optional[bytearray] = None) -> BlockRead:
-    """The proper block within one bit of 2 to 64 rows."""
+    """The proper block within one bit of 2 to 64 rows. Dark film is no block."""
     rows = _bytes(rows)
     result, block = _call(_library.film_read_block, rows, room=len(rows), out=out)
     return BlockRead(block, result.distance)

@@ -93,18 +93,26 @@ class Tests(unittest.TestCase):
             self.refused(2, call, Z[:62] + b"\xff", 9, room=room)
 
     def test_blocks(self):
-        self.assertEqual(film.encode_block([3]), bytes([3, 3]))
-        self.assertEqual(film.read_block([3, 2]), (bytes([3, 3]), 1))
-        self.assertEqual(film.read_block([3, 3]), (bytes([3, 3]), 0))
+        self.assertEqual(film.encode_block([3]), bytes([3, 252]))
+        self.assertEqual(film.read_block([3, 253]), (bytes([3, 252]), 1))
+        self.assertEqual(film.read_block([3, 252]), (bytes([3, 252]), 0))
+        self.refused(9, film.read_block, [3, 3], room=2)
         self.refused(9, film.read_block, [3, 0], room=2)
         for rows in range(256):
+            dark, bright, no_data = bytes(rows), b"\xff" * rows, (bytes(rows) + b"\xff")[1:]
             if 2 <= rows <= 64:
-                self.assertEqual(film.read_block(bytes(rows)), (bytes(rows), 0))
-                self.refused(5, film.read_block, bytes(rows), room=rows + 1)
+                self.assertEqual(film.read_block(no_data), (no_data, 0))
+                self.refused(5, film.read_block, no_data, room=rows + 1)
+                self.refused(9, film.read_block, dark, room=rows)
+                if rows % 2 == 1:
+                    self.assertEqual(film.read_block(bright), (bright, 0))
+                else:
+                    self.refused(9, film.read_block, bright, room=rows)
             else:
-                self.refused(8, film.read_block, bytes(rows), room=rows)
+                for given in (dark, bright, no_data):
+                    self.refused(8, film.read_block, given, room=rows)
             if 1 <= rows <= 63:
-                self.assertEqual(film.encode_block(bytes(rows)), bytes(rows + 1))
+                self.assertEqual(film.encode_block(dark), dark + b"\xff")
                 self.refused(5, film.encode_block, bytes([255] * rows), room=rows)
                 self.refused(2, film.encode_block, bytes([128] * rows), room=rows + 1)
             else:

@@ -1,7 +1,7 @@
 //! Cases of blocks: every number of rows, every single bit wrong, many bits wrong, and every value of a data row.
 
 use super::{Case, Cases, ENCODE_BLOCK, READ_BLOCK};
-use crate::block::{self, flipped, places, random_block};
+use crate::block::{self, flipped, no_data, places, random_block, BENCH_ROWS, BENCH_ROW_COUNTS};
 use crate::random::Random;
 
 fn read_into(cases: &mut Cases, rows: &[u8], room: usize) {
@@ -14,11 +14,11 @@ fn encode_into(cases: &mut Cases, data: &[u8], room: usize) {
     cases.add(Case { room, ..Case::new(ENCODE_BLOCK, data) }, &[answer as usize], &output);
 }
 
-fn read(cases: &mut Cases, rows: &[u8]) {
+pub fn read(cases: &mut Cases, rows: &[u8]) {
     read_into(cases, rows, rows.len());
 }
 
-fn encode(cases: &mut Cases, data: &[u8]) {
+pub fn encode(cases: &mut Cases, data: &[u8]) {
     encode_into(cases, data, data.len() + 1);
 }
 
@@ -26,11 +26,11 @@ pub fn add_all(cases: &mut Cases) {
     let random = &mut Random::new(8);
 
     // the bench sheet's rows
-    for rows in [[3, 3], [3, 2], [3, 0]] {
+    for rows in BENCH_ROWS {
         read(cases, &rows);
     }
-    for rows in [1, 2, 64, 65] {
-        read(cases, &vec![0; rows]);
+    for rows in BENCH_ROW_COUNTS {
+        read(cases, &no_data(rows));
     }
 
     // every number of rows: proper, with one wrong bit, and encoded
@@ -46,7 +46,7 @@ pub fn add_all(cases: &mut Cases) {
     // other lengths of the output, with rows that would be refused for themselves too
     for rows in [0, 1, 2, 3, 64, 65] {
         for room in [0, 1, 2, 3, 4, 63, 64, 65, 66, 255] {
-            read_into(cases, &vec![0; rows], room);
+            read_into(cases, &no_data(rows), room);
             encode_into(cases, &vec![0; rows], room);
         }
     }
@@ -79,7 +79,7 @@ pub fn add_all(cases: &mut Cases) {
         }
     }
 
-    // one odd row and three odd columns, three odd rows and one odd column
+    // one wrong row and three wrong columns, three wrong rows and one wrong column
     let block = random_block(random, 4);
     for row in 0..4 {
         for a in 0..8 {

@@ -26,7 +26,7 @@ pub use refusal::Refusal;
 
 /// The version that this crate was made for: a million times the major number, a thousand times the minor, and the patch. It is the crate's own;
 /// tools/tables writes it from version.txt.
-pub const VERSION: u32 = 1000000;
+pub const VERSION: u32 = 2000000;
 
 /// The version of the library that is linked, written as [`VERSION`] is.
 pub fn version() -> u32 {
@@ -104,12 +104,12 @@ pub fn read_ring(ring: &[u8], radius: u8, out: &mut [u8]) -> Result<RingRead, Re
     answered(r.answer, RingRead { start: r.start, number: r.number, distance: r.distance })
 }
 
-/// Encodes 1 to 63 data rows: `out`, one longer, gets the one proper block with them.
+/// Encodes 1 to 63 data rows: `out`, one longer, gets the one proper block with them: every row holds an even number of ones, every column an odd number.
 pub fn encode_block(data: &[u8], out: &mut [u8]) -> Result<(), Refusal> {
     answered(library::encode_block(data, out), ())
 }
 
-/// Reads a block: `out`, as long as the rows, gets the proper block within one bit of them. Its distance, 0 or 1, is given.
+/// Reads a block: `out`, as long as the rows, gets the proper block within one bit of them. Its distance, 0 or 1, is given. Dark film is no block.
 pub fn read_block(rows: &[u8], out: &mut [u8]) -> Result<u8, Refusal> {
     let r = library::read_block(rows, out);
     answered(r.answer, r.distance)

@@ -121,12 +121,24 @@ fn a_ring() {
 fn a_block() {
     let mut block = [0; 2];
     film::encode_block(&[3], &mut block).unwrap();
-    assert_eq!(block, [3, 3]);
+    assert_eq!(block, [3, 252]);
     let mut output = [0; 2];
-    assert_eq!(film::read_block(&[3, 2], &mut output), Ok(1));
-    assert_eq!(output, [3, 3]);
-    assert_eq!(film::read_block(&[3, 3], &mut output), Ok(0));
+    assert_eq!(film::read_block(&[3, 253], &mut output), Ok(1));
+    assert_eq!(output, [3, 252]);
+    assert_eq!(film::read_block(&[3, 252], &mut output), Ok(0));
+    refused(9, 2, |out| film::read_block(&[3, 3], out));
     refused(9, 2, |out| film::read_block(&[3, 0], out));
+    for rows in 2..=64 {
+        refused(9, rows, |out| film::read_block(&vec![0; rows], out));
+        let bright = vec![255; rows];
+        if rows % 2 == 1 {
+            let mut output = vec![0; rows];
+            assert_eq!(film::read_block(&bright, &mut output), Ok(0));
+            assert_eq!(output, bright);
+        } else {
+            refused(9, rows, |out| film::read_block(&bright, out));
+        }
+    }
     for rows in [0, 1, 65, 255] {
         refused(8, rows, |out| film::read_block(&vec![0; rows], out));
     }
@@ -134,7 +146,7 @@ fn a_block() {
         refused(8, rows + 1, |out| film::encode_block(&vec![0; rows], out));
     }
     for room in [0, 1, 3] {
-        refused(5, room, |out| film::read_block(&[3, 2], out));
+        refused(5, room, |out| film::read_block(&[3, 253], out));
         refused(5, room, |out| film::encode_block(&[255], out));
     }
     refused(2, 2, |out| film::encode_block(&[128], out));

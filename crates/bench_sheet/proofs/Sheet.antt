@@ -59,8 +59,9 @@ table =
     ∷ no-line (replicate 63 0) 3 Z
     ∷ checks-are text65 65 (32 ∷ 0 ∷ 0 ∷ 8 ∷ 0 ∷ 0 ∷ 0 ∷ 1 ∷ 1 ∷ 0 ∷ 1 ∷ [])
     ∷ one-wrong (set Z 60 5) 2 60
-    ∷ rows-are (3 ∷ 3 ∷ []) Block.proper
-    ∷ rows-are (3 ∷ 2 ∷ []) (Block.read-as (3 ∷ 3 ∷ []) 1)
+    ∷ rows-are (3 ∷ 252 ∷ []) Block.proper
+    ∷ rows-are (3 ∷ 253 ∷ []) (Block.read-as (3 ∷ 252 ∷ []) 1)
+    ∷ rows-are (3 ∷ 3 ∷ []) (Block.refused 9)
     ∷ rows-are (3 ∷ 0 ∷ []) (Block.refused 9)
     ∷ []
 
@@ -134,7 +135,10 @@ starred-rows = (
                 bench-sheet .0,
                 (
                   bench-sheet .1 .0,
-                  (bench-sheet .1 .1 .0, tt),
+                  (
+                    bench-sheet .1 .1 .0,
+                    (bench-sheet .1 .1 .1 .0, tt),
+                  ),
                 ),
               ),
             ),

@@ -185,8 +185,9 @@ fn print_line_rows() {
 }
 
 fn print_starred_blocks() {
+    print_block(b"rows 3, 252:", b"\x03\xfc", &mut [0u8; 2]);
+    print_block(b"rows 3, 253:", b"\x03\xfd", &mut [0u8; 2]);
     print_block(b"rows 3, 3:", b"\x03\x03", &mut [0u8; 2]);
-    print_block(b"rows 3, 2:", b"\x03\x02", &mut [0u8; 2]);
     print_block(b"rows 3, 0:", b"\x03\x00", &mut [0u8; 2]);
 }
 
@@ -210,11 +211,25 @@ fn print_bounds() {
     print_line(b"Z, wanted 4096:", zero_line(), 0, Wanted::Number(4096));
 }
 
+// 64 rows of no data: zeros, and the column checks.
+fn rows_64() -> [u8; 64] {
+    let mut rows = [0u8; 64];
+    rows[63] = 255;
+    rows
+}
+
+// And one row more, which is too many.
+fn rows_65() -> [u8; 65] {
+    let mut rows = [0u8; 65];
+    rows[64] = 255;
+    rows
+}
+
 fn print_row_counts() {
-    print_block(b"1 row:", &[0u8; 1], &mut [0u8; 1]);
-    print_block(b"2 rows:", &[0u8; 2], &mut [0u8; 2]);
-    print_block(b"64 rows:", &[0u8; 64], &mut [0u8; 64]);
-    print_block(b"65 rows:", &[0u8; 65], &mut [0u8; 65]);
+    print_block(b"1 row:", b"\xff", &mut [0u8; 1]);
+    print_block(b"2 rows:", b"\x00\xff", &mut [0u8; 2]);
+    print_block(b"64 rows:", &rows_64(), &mut [0u8; 64]);
+    print_block(b"65 rows:", &rows_65(), &mut [0u8; 65]);
 }
 
 fn main() {

@@ -57,7 +57,7 @@ pub apart : (a b : List ℕ) → length a ≡ length b → Proper a → Proper b
 apart a b l p q h =
     four a b l (p .block .bytes) (q .block .bytes) (proper-odd a p) (proper-odd b q) (proper-summed a p ∙ sym (proper-summed b q)) h
 
-triangle : (xs ys zs : List ℕ) → length xs ≡ length ys → length ys ≡ length zs → distance ys zs ≤ distance xs ys + distance xs zs
+pub triangle : (xs ys zs : List ℕ) → length xs ≡ length ys → length ys ≡ length zs → distance ys zs ≤ distance xs ys + distance xs zs
 unfolding distance
 triangle xs [] zs l m = omega arith
 triangle [] (y ∷ ys) zs l m = absurd (omega arith)
@@ -86,7 +86,7 @@ odd-distance (x ∷ xs) (y ∷ ys) l o h =
     let p : ones (bitXor x y) % 2 ≡ (ones x + ones y) % 2 = ones-parity x y in
     omega arith
 
-swapped : (x y s t : ℕ) → bitXor (bitXor x s) (bitXor y t) ≡ bitXor (bitXor x y) (bitXor s t)
+pub swapped : (x y s t : ℕ) → bitXor (bitXor x s) (bitXor y t) ≡ bitXor (bitXor x y) (bitXor s t)
 swapped x y s t =
     xor-assoc x s (bitXor y t) ∙ ap (λ (w : ℕ). bitXor x w) (sym (xor-assoc s y t) ∙ ap (λ (w : ℕ). bitXor w t) (xor-comm s y) ∙ xor-assoc y s t)
     ∙ sym (xor-assoc x y (bitXor s t))
@@ -101,6 +101,18 @@ summed-distance [] (y ∷ ys) l h = absurd (omega arith)
 summed-distance (x ∷ xs) [] l h = absurd (omega arith)
 summed-distance (x ∷ xs) (y ∷ ys) l h =
     summed-step x y (summed xs) (summed ys) (distance xs ys) h (summed-distance xs ys (omega arith) (omega arith))
+
+-- however far apart, the exclusive ors differ in no more bits than the rows do
+pub summed-most : (xs ys : List ℕ) → length xs ≡ length ys → ones (bitXor (summed xs) (summed ys)) ≤ distance xs ys
+unfolding summed distance lib.Count.onesIn
+summed-most [] [] l = omega arith
+summed-most [] (y ∷ ys) l = absurd (omega arith)
+summed-most (x ∷ xs) [] l = absurd (omega arith)
+summed-most (x ∷ xs) (y ∷ ys) l =
+    let i : ones (bitXor (summed xs) (summed ys)) ≤ distance xs ys = summed-most xs ys (omega arith) in
+    let m : ones (bitXor (bitXor x y) (bitXor (summed xs) (summed ys))) ≤ ones (bitXor x y) + ones (bitXor (summed xs) (summed ys)) =
+    ones-most (bitXor x y) (bitXor (summed xs) (summed ys))
+    in rw (swapped x y (summed xs) (summed ys)) (omega arith)
 
 pub near-rows : (rows b : List ℕ) → Near rows b → oddRows rows ≡ distance rows b
 near-rows rows b p = odd-distance rows b (sym (p .long)) (proper-odd b (p .proper)) (p .within)

@@ -35,8 +35,9 @@ rows is result = record { rows = rows; result = result }
 
 abbrev pub sheet : List Row
 sheet =
-    (3 ∷ 3 ∷ [] is proper)
-    ∷ (3 ∷ 2 ∷ [] is read-as (3 ∷ 3 ∷ []) 1)
+    (3 ∷ 252 ∷ [] is proper)
+    ∷ (3 ∷ 253 ∷ [] is read-as (3 ∷ 252 ∷ []) 1)
+    ∷ (3 ∷ 3 ∷ [] is refused 9)
     ∷ (3 ∷ 0 ∷ [] is refused 9)
     ∷ []
 
@@ -52,35 +53,42 @@ two-bytes x y h k zero = h
 two-bytes x y h k (suc zero) = k
 two-bytes x y h k (suc (suc i)) = omega arith
 
-proper-33 : Proper (3 ∷ 3 ∷ [])
+proper-252 : Proper (3 ∷ 252 ∷ [])
 unfolding oddRows summed onesIn wanted
-proper-33 =
-    is-proper (3 ∷ 3 ∷ []) (record { least = omega arith; most = omega arith; bytes = two-bytes 3 3 (omega arith) (omega arith) }) refl refl
+proper-252 =
+    is-proper (3 ∷ 252 ∷ []) (record { least = omega arith; most = omega arith; bytes = two-bytes 3 252 (omega arith) (omega arith) }) refl refl
 
-near-32 : Near (3 ∷ 2 ∷ []) (3 ∷ 3 ∷ [])
+near-253 : Near (3 ∷ 253 ∷ []) (3 ∷ 252 ∷ [])
 unfolding distance onesIn
-near-32 = record { long = refl; proper = proper-33; within = omega arith }
+near-253 = record { long = refl; proper = proper-252; within = omega arith }
 
-distance-32 : 1 ≡ distance (3 ∷ 2 ∷ []) (3 ∷ 3 ∷ [])
+distance-253 : 1 ≡ distance (3 ∷ 253 ∷ []) (3 ∷ 252 ∷ [])
 unfolding distance onesIn
-distance-32 = refl
+distance-253 = refl
 
-columns-30 : ones (bitXor wanted (summed (3 ∷ 0 ∷ []))) ≡ 2
-unfolding summed onesIn wanted
-columns-30 = refl
-
-none-30 : Mendable (3 ∷ 0 ∷ []) → ⊥
-none-30 m =
-    let d : ones (bitXor wanted (summed (3 ∷ 0 ∷ []))) ≡ distance (3 ∷ 0 ∷ []) (m .0) = near-columns (3 ∷ 0 ∷ []) (m .0) (m .1) in
-    let w : distance (3 ∷ 0 ∷ []) (m .0) ≤ 1 = m .1 .within in
-    let two : ones (bitXor wanted (summed (3 ∷ 0 ∷ []))) ≡ 2 = columns-30 in
+-- rows with two columns or more of the wrong parity have no proper block within one bit
+wrong-columns : (rows : List ℕ) → 2 ≤ ones (bitXor wanted (summed rows)) → Mendable rows → ⊥
+wrong-columns rows two m =
+    let d : ones (bitXor wanted (summed rows)) ≡ distance rows (m .0) = near-columns rows (m .0) (m .1) in
+    let w : distance rows (m .0) ≤ 1 = m .1 .within in
     omega arith
+
+columns-33 : 2 ≤ ones (bitXor wanted (summed (3 ∷ 3 ∷ [])))
+unfolding summed onesIn wanted
+columns-33 = omega arith
+
+columns-30 : 2 ≤ ones (bitXor wanted (summed (3 ∷ 0 ∷ [])))
+unfolding summed onesIn wanted
+columns-30 = omega arith
 
 pub bench-sheet : All sheet
 bench-sheet = (
-  proper-33,
+  proper-252,
   (
-    λ old room. near-reads (3 ∷ 2 ∷ []) old (3 ∷ 3 ∷ []) 1 room near-32 distance-32,
-    (λ old room. none-near (3 ∷ 0 ∷ []) old (omega arith) (omega arith) room none-30, tt),
+    λ old room. near-reads (3 ∷ 253 ∷ []) old (3 ∷ 252 ∷ []) 1 room near-253 distance-253,
+    (
+      λ old room. none-near (3 ∷ 3 ∷ []) old (omega arith) (omega arith) room (wrong-columns (3 ∷ 3 ∷ []) columns-33),
+      (λ old room. none-near (3 ∷ 0 ∷ []) old (omega arith) (omega arith) room (wrong-columns (3 ∷ 0 ∷ []) columns-30), tt),
+    ),
   ),
 )

@@ -29,6 +29,13 @@ unfolding summed
 summed-lt [] h = omega arith
 summed-lt (x ∷ xs) h = xor-lt 8 x (summed xs) (h 0) (summed-lt xs (λ i. h (suc i)))
 
+-- so the columns' parities fix it, and it fixes them
+pub summed-is : (xs : List ℕ) (s : ℕ) → Bytes xs → s < 256 → ((j : ℕ) → j < 8 → column j xs % 2 ≡ s / 2 ^ j % 2) → summed xs ≡ s
+summed-is xs s b h c = same-bits 8 (summed xs) s (summed-lt xs b) h (λ j l. summed-column j xs ∙ c j l)
+
+pub columns-are : (xs : List ℕ) (s : ℕ) → summed xs ≡ s → (j : ℕ) → column j xs % 2 ≡ s / 2 ^ j % 2
+columns-are xs s e j = sym (summed-column j xs) ∙ ap (λ (x : ℕ). x / 2 ^ j % 2) e
+
 -- ---- the wanted byte: a byte, even, each bit a column's parity
 
 pub wanted-lt : wanted < 256
@@ -48,7 +55,7 @@ wanted-bit j h = eqb→eq (wanted / 2 ^ j % 2) columnParity (each-at 8 (λ j. eq
 
 -- ---- a proper block
 
-even-none : (xs : List ℕ) → ((i : ℕ) → ones (getD xs i 0) % 2 ≡ 0) → oddRows xs ≡ 0
+pub even-none : (xs : List ℕ) → ((i : ℕ) → ones (getD xs i 0) % 2 ≡ 0) → oddRows xs ≡ 0
 unfolding oddRows
 even-none [] h = refl
 even-none (x ∷ xs) h =
@@ -56,7 +63,7 @@ even-none (x ∷ xs) h =
     let k : ones x % 2 ≡ 0 = h 0 in
     omega arith
 
-none-even : (xs : List ℕ) → oddRows xs ≡ 0 → (i : ℕ) → ones (getD xs i 0) % 2 ≡ 0
+pub none-even : (xs : List ℕ) → oddRows xs ≡ 0 → (i : ℕ) → ones (getD xs i 0) % 2 ≡ 0
 unfolding oddRows onesIn
 none-even [] h i = refl
 none-even (x ∷ xs) h zero = omega arith
@@ -67,14 +74,12 @@ pub proper-odd : (xs : List ℕ) → Proper xs → oddRows xs ≡ 0
 proper-odd xs p = even-none xs (p .even)
 
 pub proper-summed : (xs : List ℕ) → Proper xs → summed xs ≡ wanted
-proper-summed xs p =
-    same-bits 8 (summed xs) wanted (summed-lt xs (p .block .bytes)) wanted-lt
-    (λ j h. summed-column j xs ∙ p .columns j h ∙ sym (wanted-bit j h))
+proper-summed xs p = summed-is xs wanted (p .block .bytes) wanted-lt (λ j h. p .columns j h ∙ sym (wanted-bit j h))
 
 -- and a block of such rows is proper
 pub is-proper : (xs : List ℕ) → Block xs → oddRows xs ≡ 0 → summed xs ≡ wanted → Proper xs
 is-proper xs b o s =
-    record { block = b; even = none-even xs o; columns = λ j h. sym (summed-column j xs) ∙ ap (λ (x : ℕ). x / 2 ^ j % 2) s ∙ wanted-bit j h }
+    record { block = b; even = none-even xs o; columns = λ j h. columns-are xs wanted s j ∙ wanted-bit j h }
 
 -- ---- odd rows are as many as the ones of the exclusive or, but for an even number
 

@@ -1,8 +1,9 @@
--- The laws of parity blocks, the ways in which reading and encoding end, the theorems, and the bench sheet's rows.
+-- The laws of parity blocks, of even columns too, the ways in which reading and encoding end, the theorems, and the bench sheet's rows.
 pub mod Bits
 pub mod Columns
 pub mod Apart
 pub mod Encoding
+pub mod Even
 pub mod Reading
 pub mod Results
 pub mod Lanes

@@ -1,10 +1,10 @@
 -- What is proved of parity blocks, in the words of the rules.
 use mathlib.Core.Path.{_≡_, refl, sym, ap, _∙_}
 use mathlib.Core.List.{List}
-use Prim.Native.Nat.{ℕ, _^_, _<_, _≤_}
+use Prim.Native.Nat.{ℕ, _%_, _^_, _<_, _≤_}
 use native.Mathlib.Decide.{decLt}
 use native.Mathlib.Omega.{arith}
-use lib.ListN.{length, getD, set, length-set}
+use lib.ListN.{length, getD, set, replicate, length-set, length-replicate}
 use lib.Bits.{bitXor}
 use Rattle.refusal.specs.declared.Refusal.the-variants.{NoBlock}
 use Rattle.refusal.proofs.Theorems.{one-result, same-numbers}
@@ -12,13 +12,15 @@ use Rattle.block.specs.declared.BlockReading.{BlockReading}
 use Rattle.block.specs.declared.BlockReading.the-variants as R
 use Rattle.block.specs.declared.BlockEncoding.{BlockEncoding}
 use Rattle.block.specs.declared.BlockEncoding.the-variants as E
-use Rattle.block.specs.Block.{Proper, distance, Near, Mendable, Sevens, Holds}
+use Rattle.block.specs.Block.{dataOf, Proper, distance, Near, Mendable, Sevens, Holds}
+use Rattle.block.specs.Even.{Even, lastInverted}
 use Rattle.block.specs.Promises.{readingNumbers, encodingNumbers, readingTests, encodingTests, ReadAs, EncodedAs, Reads, Encodes}
 use Rattle.block.specs.Inside.{encoded}
 use Rattle.block.proofs.Bits.{one-bit}
 use Rattle.block.proofs.Columns.{distance-self, distance-comm, distance-set}
 use Rattle.block.proofs.Apart.{apart, near-same}
 use Rattle.block.proofs.Encoding.{encoded-holds, holds-encoded}
+use Rattle.block.proofs.Even.{even-summed, even-apart, even-none-near, inverted-long, inverted-proper, inverted-even, inverted-twice, inverted-data, inverted-distance, inverted-near, dark-summed, dark-even, bright-odd, bright-proper, bright-even}
 use Rattle.block.proofs.Reading.{near-reads, none-near}
 use Rattle.block.proofs.Results.{reading-fixed, encoding-fixed, one-read-as, one-encoded-as}
 
@@ -100,3 +102,71 @@ unfolding Encodes
 one-encoding given old r s x y p q =
     let e = one-result (encodingTests given (length old)) (EncodedAs given) 0 (λ _. one-encoded-as given) old (encodingNumbers r) (encodingNumbers s) x y p q in
     (encoding-fixed r s (e .0), e .1)
+
+-- ---- blocks whose columns are even
+
+-- a block whose columns are even lies eight bits or more from every proper block
+pub eight-bits : (even block : List ℕ) → length even ≡ length block → Even even → Proper block → 8 ≤ distance even block
+eight-bits even block l e p = even-apart even block l (even-summed even e) p
+
+-- so with up to six wrong bits it is refused, with 9
+pub read-even : (even rows old new : List ℕ) (r : BlockReading) → Even even → length even ≡ length rows → distance rows even ≤ 6 → length old ≡ length rows
+    → Reads rows old (readingNumbers r) new → (r ≡ R.Refused NoBlock) × (new ≡ old)
+read-even even rows old new r e l six room h =
+    read-none rows old new r (rw (sym l) (e .block .least)) (rw (sym l) (e .block .most)) room
+    (even-none-near rows even l (even-summed even e) six) h
+
+-- the last row inverted makes it proper, and a proper block one whose columns are even
+pub inverted-columns : (rows : List ℕ) → (Even rows → Proper (lastInverted rows)) × (Proper rows → Even (lastInverted rows))
+inverted-columns rows = (inverted-proper rows, inverted-even rows)
+
+-- so the proper block with given data rows is the one with even columns, its last row inverted
+pub encoded-inverted : (given even block : List ℕ) → Even even → dataOf even ≡ given → Holds given block → block ≡ lastInverted even
+encoded-inverted given even block e d h =
+    holds-encoded given block h
+    ∙ sym (holds-encoded given (lastInverted even) (record { proper = inverted-proper even e; rows = inverted-data even ∙ d }))
+
+-- and rows with one wrong bit at most are read once their last row is inverted: the data rows are those of the block, and inverting the last row again
+-- gives it back
+pub read-inverted : (even rows old new : List ℕ) (r : BlockReading) → Even even → length even ≡ length rows → distance rows even ≤ 1 → length old ≡ length rows
+    → Reads (lastInverted rows) old (readingNumbers r) new → (r ≡ R.Block (distance rows even)) × (dataOf new ≡ dataOf even) × (lastInverted new ≡ even)
+read-inverted even rows old new r e l one room h =
+    let n = inverted-near rows even e l one in
+    let x = read-near (lastInverted rows) (lastInverted even) old new r n (room ∙ sym (inverted-long rows)) h in (
+      x .0 ∙ ap R.Block (inverted-distance rows even l (e .block)),
+      ap dataOf (x .1) ∙ inverted-data even,
+      ap lastInverted (x .1) ∙ inverted-twice even (e .block),
+    )
+
+-- ---- dark film
+
+-- a dark block is never proper
+pub dark-never : (n : ℕ) → Proper (replicate n 0) → ⊥
+dark-never n p =
+    let far : 8 ≤ distance (replicate n 0) (replicate n 0) = even-apart (replicate n 0) (replicate n 0) refl (dark-summed n) p in
+    let none : distance (replicate n 0) (replicate n 0) ≡ 0 = distance-self (replicate n 0) in
+    omega arith
+
+-- it is refused with 9, and with up to six bright bits too
+pub read-dark : (n : ℕ) (rows old new : List ℕ) (r : BlockReading) → 2 ≤ n → n ≤ 64 → length rows ≡ n → distance rows (replicate n 0) ≤ 6 → length old ≡ n
+    → Reads rows old (readingNumbers r) new → (r ≡ R.Refused NoBlock) × (new ≡ old)
+read-dark n rows old new r least most l six room h =
+    read-even (replicate n 0) rows old new r (dark-even n least most) (length-replicate n 0 ∙ sym l) six (room ∙ sym l) h
+
+-- ---- bright film
+
+-- an all-bright block is proper exactly when its row count is odd
+pub bright-exactly : (n : ℕ) → 2 ≤ n → n ≤ 64 → (Proper (replicate n 255) → n % 2 ≡ 1) × (n % 2 ≡ 1 → Proper (replicate n 255))
+bright-exactly n least most = (bright-odd n, bright-proper n least most)
+
+-- it is read as it is then
+pub read-bright-odd : (n : ℕ) (old new : List ℕ) (r : BlockReading) → 2 ≤ n → n ≤ 64 → n % 2 ≡ 1 → length old ≡ n
+    → Reads (replicate n 255) old (readingNumbers r) new → (r ≡ R.Block 0) × (new ≡ replicate n 255)
+read-bright-odd n old new r least most odd room h =
+    read-proper (replicate n 255) old new r (bright-proper n least most odd) (room ∙ sym (length-replicate n 255)) h
+
+-- and else refused with 9, with up to six dark bits too
+pub read-bright-even : (n : ℕ) (rows old new : List ℕ) (r : BlockReading) → 2 ≤ n → n ≤ 64 → n % 2 ≡ 0 → length rows ≡ n → distance rows (replicate n 255) ≤ 6
+    → length old ≡ n → Reads rows old (readingNumbers r) new → (r ≡ R.Refused NoBlock) × (new ≡ old)
+read-bright-even n rows old new r least most even l six room h =
+    read-even (replicate n 255) rows old new r (bright-even n least most even) (length-replicate n 255 ∙ sym l) six (room ∙ sym l) h

@@ -29,11 +29,11 @@ unfoldable pub column : ℕ → List ℕ → ℕ
 column j [] = 0
 column j (row ∷ rows) = row / 2 ^ j % 2 + column j rows
 
--- the parity of every column of a proper block: 0 for an even number of ones, 1 for an odd number
+-- the parity of every column of a proper block: odd, so that dark film is none
 abbrev pub columnParity : ℕ
-columnParity = 0
+columnParity = 1
 
--- every row holds an even number of ones, and every column the number that its parity says
+-- every row holds an even number of ones, and every column an odd number
 pub record Proper (rows : List ℕ) : Type 0 where
   pub block : Block rows
   pub even : (i : ℕ) → ones (getD rows i 0) % 2 ≡ 0

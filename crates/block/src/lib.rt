@@ -10,8 +10,8 @@ ghost use Rattle.block.specs.Inside.{Counted, checked, encoded};
 ghost use Rattle.block.specs.Lanes.{CountedTo, OddBytes, SomeByte};
 use refusal::Refusal;
 
-// The exclusive or of the rows of a proper block: bit j is the parity of column j.
-const COLUMNS: u8 = 0;
+// The exclusive or of the rows of a proper block: bit j is the parity of column j, and every column is odd.
+const COLUMNS: u8 = 255;
 
 // The answer of reading.
 pub enum BlockReading {

@@ -4,13 +4,15 @@ use mathlib.Core.List.{List, [], _∷_, map}
 use Prim.Native.Nat.{ℕ, zero, suc, _+_, _-_, _*_, _/_, _%_, _^_, _<_, _≤_}
 use native.Mathlib.Nat.{le-of-suc-le-suc, not-suc-le-zero, zero-div}
 use native.Mathlib.Omega.{arith}
+use lib.Dec.{T, eqb, eqb→eq}
 use lib.ListN.{length, getD, set, take, replicate, length-set, length-replicate}
 use lib.Seq.{getD-set-same, set-getD, set-set, take-set-le}
 use lib.Count.{onesIn}
 use lib.Bits.{bitXor, xor-lt, xor-self, xor-zero-r}
-use Rattle.numbers.proofs.Xor.{xor-twice, xor-undo}
+use Rattle.numbers.proofs.Range.{each, each-at}
+use Rattle.numbers.proofs.Xor.{xor-assoc, xor-twice, xor-undo}
 use Rattle.block.specs.Block.{Bytes, Block, dataOf, ones, Proper, distance, Near, Mendable}
-use Rattle.block.specs.Even.{Even, lastInverted}
+use Rattle.block.specs.Even.{Even, inverted, lastInverted}
 use Rattle.block.specs.Inside.{oddRows, summed, wanted}
 use Rattle.block.proofs.Bits.{ones-parity}
 use Rattle.block.proofs.Columns.{summed-is, columns-are, even-none, none-even, proper-odd, proper-summed, is-proper, odd-set, summed-set, bytes-set}
@@ -49,73 +51,57 @@ even-none-near rows a l s h m =
     let w : distance rows (m .0) ≤ 1 = n .within in
     omega arith
 
--- ---- the last row inverted
+-- ---- a row inverted
 
-last-inside : (rows : List ℕ) → Block rows → length rows - 1 < length rows
-last-inside rows b = let h : 2 ≤ length rows = b .least in omega arith
+pub inverted-long : (k : ℕ) (rows : List ℕ) → length (inverted k rows) ≡ length rows
+unfolding inverted
+inverted-long k rows = length-set rows k (bitXor (getD rows k 0) 255)
 
-pub inverted-long : (rows : List ℕ) → length (lastInverted rows) ≡ length rows
-unfolding lastInverted
-inverted-long rows = length-set rows (length rows - 1) (bitXor (getD rows (length rows - 1) 0) 255)
-
-inverted-block : (rows : List ℕ) → Block rows → Block (lastInverted rows)
-unfolding lastInverted
-inverted-block rows b =
-    let l : length (lastInverted rows) ≡ length rows = inverted-long rows in
-    let x : ℕ = getD rows (length rows - 1) 0 in
+inverted-block : (k : ℕ) (rows : List ℕ) → Block rows → Block (inverted k rows)
+unfolding inverted
+inverted-block k rows b =
+    let l : length (inverted k rows) ≡ length rows = inverted-long k rows in
+    let x : ℕ = getD rows k 0 in
     record {
       least = rw l (b .least);
       most = rw l (b .most);
-      bytes = bytes-set rows (length rows - 1) (bitXor x 255) (b .bytes) (xor-lt 8 x 255 (b .bytes (length rows - 1)) (omega arith));
+      bytes = bytes-set rows k (bitXor x 255) (b .bytes) (xor-lt 8 x 255 (b .bytes k) (omega arith));
     }
 
 -- eight bits are turned, so a row stays as even as it was
-inverted-odd : (rows : List ℕ) → Block rows → oddRows (lastInverted rows) ≡ oddRows rows
-unfolding lastInverted onesIn
-inverted-odd rows b =
-    let x : ℕ = getD rows (length rows - 1) 0 in
-    let s : oddRows (lastInverted rows) + ones x % 2 ≡ oddRows rows + ones (bitXor x 255) % 2 =
-    odd-set rows (length rows - 1) (bitXor x 255) (last-inside rows b)
-    in
+inverted-odd : (k : ℕ) (rows : List ℕ) → k < length rows → oddRows (inverted k rows) ≡ oddRows rows
+unfolding inverted onesIn
+inverted-odd k rows h =
+    let x : ℕ = getD rows k 0 in
+    let s : oddRows (inverted k rows) + ones x % 2 ≡ oddRows rows + ones (bitXor x 255) % 2 = odd-set rows k (bitXor x 255) h in
     let p : ones (bitXor x 255) % 2 ≡ (ones x + 8) % 2 = ones-parity x 255 in
     omega arith
 
 -- and each column changes its parity
-inverted-summed : (rows : List ℕ) → Block rows → summed (lastInverted rows) ≡ bitXor (summed rows) 255
-unfolding lastInverted
-inverted-summed rows b = summed-set rows (length rows - 1) 255 (last-inside rows b)
+inverted-summed : (k : ℕ) (rows : List ℕ) → k < length rows → summed (inverted k rows) ≡ bitXor (summed rows) 255
+unfolding inverted
+inverted-summed k rows h = summed-set rows k 255 h
 
-pub inverted-proper : (rows : List ℕ) → Even rows → Proper (lastInverted rows)
+pub inverted-proper : (k : ℕ) (rows : List ℕ) → k < length rows → Even rows → Proper (inverted k rows)
 unfolding wanted
-inverted-proper rows e =
-    is-proper (lastInverted rows) (inverted-block rows (e .block)) (inverted-odd rows (e .block) ∙ even-odd rows e)
-    (inverted-summed rows (e .block) ∙ ap (λ (s : ℕ). bitXor s 255) (even-summed rows e))
+inverted-proper k rows h e =
+    is-proper (inverted k rows) (inverted-block k rows (e .block)) (inverted-odd k rows h ∙ even-odd rows e)
+    (inverted-summed k rows h ∙ ap (λ (s : ℕ). bitXor s 255) (even-summed rows e))
 
-pub inverted-even : (rows : List ℕ) → Proper rows → Even (lastInverted rows)
+pub inverted-even : (k : ℕ) (rows : List ℕ) → k < length rows → Proper rows → Even (inverted k rows)
 unfolding wanted
-inverted-even rows p =
-    is-even (lastInverted rows) (inverted-block rows (p .block)) (inverted-odd rows (p .block) ∙ proper-odd rows p)
-    (inverted-summed rows (p .block) ∙ ap (λ (s : ℕ). bitXor s 255) (proper-summed rows p))
+inverted-even k rows h p =
+    is-even (inverted k rows) (inverted-block k rows (p .block)) (inverted-odd k rows h ∙ proper-odd rows p)
+    (inverted-summed k rows h ∙ ap (λ (s : ℕ). bitXor s 255) (proper-summed rows p))
 
-pub inverted-twice : (rows : List ℕ) → Block rows → lastInverted (lastInverted rows) ≡ rows
-unfolding lastInverted
-inverted-twice rows b =
-    let i : ℕ = length rows - 1 in
-    let x : ℕ = getD rows i 0 in
-    ap (λ (n : ℕ). set (lastInverted rows) (n - 1) (bitXor (getD (lastInverted rows) (n - 1) 0) 255)) (inverted-long rows)
-    ∙ set-set rows i (bitXor x 255) (bitXor (getD (set rows i (bitXor x 255)) i 0) 255)
-    ∙ ap (λ (y : ℕ). set rows i (bitXor y 255)) (getD-set-same rows i (bitXor x 255) 0 (last-inside rows b))
-    ∙ ap (set rows i) (xor-twice x 255) ∙ set-getD rows i 0
+pub inverted-twice : (k : ℕ) (rows : List ℕ) → k < length rows → inverted k (inverted k rows) ≡ rows
+unfolding inverted
+inverted-twice k rows h =
+    let x : ℕ = getD rows k 0 in
+    set-set rows k (bitXor x 255) (bitXor (getD (set rows k (bitXor x 255)) k 0) 255)
+    ∙ ap (λ (y : ℕ). set rows k (bitXor y 255)) (getD-set-same rows k (bitXor x 255) 0 h) ∙ ap (set rows k) (xor-twice x 255) ∙ set-getD rows k 0
 
--- the last row is no data row
-pub inverted-data : (rows : List ℕ) → dataOf (lastInverted rows) ≡ dataOf rows
-unfolding dataOf lastInverted
-inverted-data rows =
-    ap (map (λ (row : ℕ). row % 128))
-    (ap (λ (n : ℕ). take (n - 1) (lastInverted rows)) (inverted-long rows)
-    ∙ take-set-le (length rows - 1) rows (length rows - 1) (bitXor (getD rows (length rows - 1) 0) 255) (omega arith))
-
--- where both last rows are inverted the distance stays
+-- where the same row of both is inverted the distance stays
 both-set : (xs ys : List ℕ) (k e : ℕ) → length xs ≡ length ys → k < length xs
     → distance (set xs k (bitXor (getD xs k 0) e)) (set ys k (bitXor (getD ys k 0) e)) ≡ distance xs ys
 unfolding distance
@@ -125,20 +111,65 @@ both-set (x ∷ xs) (y ∷ ys) zero e l h =
     ap (λ (z : ℕ). ones z + distance xs ys) (swapped x y e e ∙ ap (bitXor (bitXor x y)) (xor-self e) ∙ xor-zero-r (bitXor x y))
 both-set (x ∷ xs) (y ∷ ys) (suc k) e l h = ap (λ (d : ℕ). ones (bitXor x y) + d) (both-set xs ys k e (omega arith) (le-of-suc-le-suc h))
 
-pub inverted-distance : (xs ys : List ℕ) → length ys ≡ length xs → Block ys → distance (lastInverted xs) (lastInverted ys) ≡ distance xs ys
-unfolding lastInverted
-inverted-distance xs ys l b =
-    ap (λ (n : ℕ). distance (set xs (n - 1) (bitXor (getD xs (n - 1) 0) 255)) (lastInverted ys)) (sym l)
-    ∙ both-set xs ys (length ys - 1) 255 (sym l) (rw (sym l) (last-inside ys b))
+pub inverted-distance : (k : ℕ) (xs ys : List ℕ) → length xs ≡ length ys → k < length xs → distance (inverted k xs) (inverted k ys) ≡ distance xs ys
+unfolding inverted
+inverted-distance k xs ys l h = both-set xs ys k 255 l h
+
+-- ---- the last row inverted
+
+pub last-inside : (rows : List ℕ) → Block rows → length rows - 1 < length rows
+last-inside rows b = let h : 2 ≤ length rows = b .least in omega arith
+
+pub last-twice : (rows : List ℕ) → Block rows → lastInverted (lastInverted rows) ≡ rows
+last-twice rows b =
+    ap (λ (n : ℕ). inverted (n - 1) (lastInverted rows)) (inverted-long (length rows - 1) rows) ∙ inverted-twice (length rows - 1) rows (last-inside rows b)
+
+-- it is no data row
+pub last-data : (rows : List ℕ) → dataOf (lastInverted rows) ≡ dataOf rows
+unfolding dataOf inverted
+last-data rows =
+    ap (map (λ (row : ℕ). row % 128))
+    (ap (λ (n : ℕ). take (n - 1) (lastInverted rows)) (inverted-long (length rows - 1) rows)
+    ∙ take-set-le (length rows - 1) rows (length rows - 1) (bitXor (getD rows (length rows - 1) 0) 255) (omega arith))
+
+pub last-distance : (rows even : List ℕ) → Block even → length even ≡ length rows → distance (lastInverted rows) (lastInverted even) ≡ distance rows even
+last-distance rows even b l =
+    ap (λ (n : ℕ). distance (inverted (n - 1) rows) (lastInverted even)) (sym l)
+    ∙ inverted-distance (length even - 1) rows even (sym l) (rw (sym l) (last-inside even b))
 
 -- and rows near an even block are near the proper one
-pub inverted-near : (rows even : List ℕ) → Even even → length even ≡ length rows → distance rows even ≤ 1 → Near (lastInverted rows) (lastInverted even)
-inverted-near rows even e l h =
+pub last-near : (rows even : List ℕ) → Even even → length even ≡ length rows → distance rows even ≤ 1 → Near (lastInverted rows) (lastInverted even)
+last-near rows even e l h =
     record {
-      long = inverted-long even ∙ l ∙ sym (inverted-long rows);
-      proper = inverted-proper even e;
-      within = rw (inverted-distance rows even l (e .block)) h;
+      long = inverted-long (length even - 1) even ∙ l ∙ sym (inverted-long (length rows - 1) rows);
+      proper = inverted-proper (length even - 1) even (last-inside even (e .block)) e;
+      within = rw (last-distance rows even (e .block) l) h;
     }
+
+-- ---- all bits of a row turned but one
+
+seven-test : T (each 8 (λ j. eqb (bitXor 255 (2 ^ j)) (255 - 2 ^ j)))
+seven-test = tt
+
+seven : (j : ℕ) → j < 8 → bitXor 255 (2 ^ j) ≡ 255 - 2 ^ j
+seven j h = eqb→eq (bitXor 255 (2 ^ j)) (255 - 2 ^ j) (each-at 8 (λ j. eqb (bitXor 255 (2 ^ j)) (255 - 2 ^ j)) seven-test j h)
+
+seven-ones-test : T (each 8 (λ j. eqb (ones (255 - 2 ^ j)) 7))
+unfolding onesIn
+seven-ones-test = tt
+
+pub seven-ones : (j : ℕ) → j < 8 → ones (255 - 2 ^ j) ≡ 7
+seven-ones j h = eqb→eq (ones (255 - 2 ^ j)) 7 (each-at 8 (λ j. eqb (ones (255 - 2 ^ j)) 7) seven-ones-test j h)
+
+-- are all of them turned, and that one once more
+pub seven-turned : (k : ℕ) (rows : List ℕ) (j : ℕ) → k < length rows → j < 8
+    → set rows k (bitXor (getD rows k 0) (255 - 2 ^ j)) ≡ set (inverted k rows) k (bitXor (getD (inverted k rows) k 0) (2 ^ j))
+unfolding inverted
+seven-turned k rows j hk hj =
+    let x : ℕ = getD rows k 0 in
+    ap (λ (y : ℕ). set rows k (bitXor x y)) (sym (seven j hj)) ∙ ap (set rows k) (sym (xor-assoc x 255 (2 ^ j)))
+    ∙ ap (λ (y : ℕ). set rows k (bitXor y (2 ^ j))) (sym (getD-set-same rows k (bitXor x 255) 0 hk))
+    ∙ sym (set-set rows k (bitXor x 255) (bitXor (getD (set rows k (bitXor x 255)) k 0) (2 ^ j)))
 
 -- ---- rows that are all the same: dark ones, and bright ones
 

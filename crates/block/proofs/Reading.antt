@@ -69,7 +69,7 @@ module _ (rows old : List ℕ) (least : 2 ≤ length rows) (most : length rows �
       many-columns h =
           none-near room
           (λ m.
-          let e : d ≡ distance rows (m .0) = ends ∙ ap ones (counted .columns-odd) ∙ near-columns rows (m .0) (m .1) in
+          let e : d ≡ distance rows (m .0) = ends ∙ ap ones (counted .columns-wrong) ∙ near-columns rows (m .0) (m .1) in
           let w : distance rows (m .0) ≤ 1 = m .1 .within in
           omega arith)
 
@@ -85,13 +85,13 @@ module _ (rows old : List ℕ) (least : 2 ≤ length rows) (most : length rows �
         inside = counted .inside (omega arith)
 
         columns-byte : f .columns < 256
-        columns-byte = rw (counted .columns-odd) (xor-lt 8 wanted (summed rows) wanted-lt (summed-lt rows (counted .bytes)))
+        columns-byte = rw (counted .columns-wrong) (xor-lt 8 wanted (summed rows) wanted-lt (summed-lt rows (counted .bytes)))
 
         -- there are as many of the one as of the other
         as-many : f .rows ≡ d
         as-many =
             let o : f .rows ≡ oddRows rows = counted .rows-odd in
-            let p : ones (f .columns) % 2 ≡ oddRows rows % 2 = ap (λ (c : ℕ). ones c % 2) (counted .columns-odd) ∙ wrong-parity rows in
+            let p : ones (f .columns) % 2 ≡ oddRows rows % 2 = ap (λ (c : ℕ). ones c % 2) (counted .columns-wrong) ∙ wrong-parity rows in
             omega arith
 
         none-odd : oddRows mended ≡ 0
@@ -115,7 +115,7 @@ module _ (rows old : List ℕ) (least : 2 ≤ length rows) (most : length rows �
                     bytes = bytes-set rows (f .row) turned (counted .bytes) (xor-lt 8 (getD rows (f .row) 0) (f .columns) (counted .bytes (f .row)) columns-byte);
                   })
                   none-odd
-                  (summed-set rows (f .row) (f .columns) inside ∙ ap (λ (c : ℕ). bitXor (summed rows) c) (counted .columns-odd ∙ xor-comm wanted (summed rows)) ∙ xor-undo (summed rows) wanted);
+                  (summed-set rows (f .row) (f .columns) inside ∙ ap (λ (c : ℕ). bitXor (summed rows) c) (counted .columns-wrong ∙ xor-comm wanted (summed rows)) ∙ xor-undo (summed rows) wanted);
               within = rw (distance-set rows (f .row) (f .columns) inside) (omega arith);
             }
 

@@ -1,7 +1,7 @@
 -- What is proved of parity blocks, in the words of the rules.
 use mathlib.Core.Path.{_≡_, refl, sym, ap, _∙_}
 use mathlib.Core.List.{List}
-use Prim.Native.Nat.{ℕ, _%_, _^_, _<_, _≤_}
+use Prim.Native.Nat.{ℕ, _-_, _%_, _^_, _<_, _≤_}
 use native.Mathlib.Decide.{decLt}
 use native.Mathlib.Omega.{arith}
 use lib.ListN.{length, getD, set, replicate, length-set, length-replicate}
@@ -13,14 +13,14 @@ use Rattle.block.specs.declared.BlockReading.the-variants as R
 use Rattle.block.specs.declared.BlockEncoding.{BlockEncoding}
 use Rattle.block.specs.declared.BlockEncoding.the-variants as E
 use Rattle.block.specs.Block.{dataOf, Proper, distance, Near, Mendable, Sevens, Holds}
-use Rattle.block.specs.Even.{Even, lastInverted}
+use Rattle.block.specs.Even.{Even, inverted, lastInverted}
 use Rattle.block.specs.Promises.{readingNumbers, encodingNumbers, readingTests, encodingTests, ReadAs, EncodedAs, Reads, Encodes}
 use Rattle.block.specs.Inside.{encoded}
 use Rattle.block.proofs.Bits.{one-bit}
 use Rattle.block.proofs.Columns.{distance-self, distance-comm, distance-set}
 use Rattle.block.proofs.Apart.{apart, near-same}
 use Rattle.block.proofs.Encoding.{encoded-holds, holds-encoded}
-use Rattle.block.proofs.Even.{even-summed, even-apart, even-none-near, inverted-long, inverted-proper, inverted-even, inverted-twice, inverted-data, inverted-distance, inverted-near, dark-summed, dark-even, bright-odd, bright-proper, bright-even}
+use Rattle.block.proofs.Even.{even-summed, even-apart, even-none-near, inverted-long, inverted-proper, inverted-even, last-inside, last-twice, last-data, last-distance, last-near, seven-ones, seven-turned, dark-summed, dark-even, bright-odd, bright-proper, bright-even}
 use Rattle.block.proofs.Reading.{near-reads, none-near}
 use Rattle.block.proofs.Results.{reading-fixed, encoding-fixed, one-read-as, one-encoded-as}
 
@@ -116,26 +116,37 @@ read-even even rows old new r e l six room h =
     read-none rows old new r (rw (sym l) (e .block .least)) (rw (sym l) (e .block .most)) room
     (even-none-near rows even l (even-summed even e) six) h
 
--- the last row inverted makes it proper, and a proper block one whose columns are even
-pub inverted-columns : (rows : List ℕ) → (Even rows → Proper (lastInverted rows)) × (Proper rows → Even (lastInverted rows))
-inverted-columns rows = (inverted-proper rows, inverted-even rows)
+-- inverting one row makes it proper, and a proper block one whose columns are even
+pub inverted-columns : (k : ℕ) (rows : List ℕ) → k < length rows → (Even rows → Proper (inverted k rows)) × (Proper rows → Even (inverted k rows))
+inverted-columns k rows h = (inverted-proper k rows h, inverted-even k rows h)
 
--- so the proper block with given data rows is the one with even columns, its last row inverted
+-- so no more than six can be promised: with seven bits of one row wrong it is read, as the block with that row inverted
+pub read-seven : (even old new : List ℕ) (r : BlockReading) (k j : ℕ) → Even even → k < length even → j < 8 → length old ≡ length even
+    → Reads (set even k (bitXor (getD even k 0) (255 - 2 ^ j))) old (readingNumbers r) new → (r ≡ R.Block 1) × (new ≡ inverted k even)
+read-seven even old new r k j e hk hj room h =
+    let l : length (inverted k even) ≡ length even = inverted-long k even in
+    read-mended (inverted k even) old new r k j (inverted-proper k even hk e) (rw l hk) hj (room ∙ sym l) (rw (seven-turned k even j hk hj) at h)
+
+pub seven-wrong : (even : List ℕ) (k j : ℕ) → k < length even → j < 8 → distance even (set even k (bitXor (getD even k 0) (255 - 2 ^ j))) ≡ 7
+seven-wrong even k j hk hj = distance-set even k (255 - 2 ^ j) hk ∙ seven-ones j hj
+
+-- the proper block with given data rows is the one with even columns, its last row inverted
 pub encoded-inverted : (given even block : List ℕ) → Even even → dataOf even ≡ given → Holds given block → block ≡ lastInverted even
 encoded-inverted given even block e d h =
     holds-encoded given block h
-    ∙ sym (holds-encoded given (lastInverted even) (record { proper = inverted-proper even e; rows = inverted-data even ∙ d }))
+    ∙ sym (holds-encoded given (lastInverted even)
+    (record { proper = inverted-proper (length even - 1) even (last-inside even (e .block)) e; rows = last-data even ∙ d }))
 
 -- and rows with one wrong bit at most are read once their last row is inverted: the data rows are those of the block, and inverting the last row again
 -- gives it back
 pub read-inverted : (even rows old new : List ℕ) (r : BlockReading) → Even even → length even ≡ length rows → distance rows even ≤ 1 → length old ≡ length rows
     → Reads (lastInverted rows) old (readingNumbers r) new → (r ≡ R.Block (distance rows even)) × (dataOf new ≡ dataOf even) × (lastInverted new ≡ even)
 read-inverted even rows old new r e l one room h =
-    let n = inverted-near rows even e l one in
-    let x = read-near (lastInverted rows) (lastInverted even) old new r n (room ∙ sym (inverted-long rows)) h in (
-      x .0 ∙ ap R.Block (inverted-distance rows even l (e .block)),
-      ap dataOf (x .1) ∙ inverted-data even,
-      ap lastInverted (x .1) ∙ inverted-twice even (e .block),
+    let n = last-near rows even e l one in
+    let x = read-near (lastInverted rows) (lastInverted even) old new r n (room ∙ sym (inverted-long (length rows - 1) rows)) h in (
+      x .0 ∙ ap R.Block (last-distance rows even (e .block) l),
+      ap dataOf (x .1) ∙ last-data even,
+      ap lastInverted (x .1) ∙ last-twice even (e .block),
     )
 
 -- ---- dark film

@@ -32,7 +32,7 @@ module _ (rows : List ℕ) (i odd row columns n odd′ row′ : ℕ) (t : Counte
   columns-next : bitXor columns (getD rows i 0) ≡ bitXor wanted (total (i + 1) (λ a. getD rows a 0))
   unfolding total sum
   columns-next =
-      rw (add-one i, t .columns-odd) (xor-assoc wanted (total i (λ a. getD rows a 0)) (getD rows i 0))
+      rw (add-one i, t .columns-wrong) (xor-assoc wanted (total i (λ a. getD rows a 0)) (getD rows i 0))
 
   odd-next : count (i + 1) (λ a. ones (getD rows a 0) % 2) ≡ count i (λ a. ones (getD rows a 0) % 2) + n % 2
   unfolding count
@@ -44,7 +44,7 @@ module _ (rows : List ℕ) (i odd row columns n odd′ row′ : ℕ) (t : Counte
         most = omega arith;
         few = omega arith;
         rows-odd = omega (arith, odd-next);
-        columns-odd = columns-next;
+        columns-wrong = columns-next;
         inside = λ _. omega arith;
         row-odd = λ _. rw (r, ← c) e;
       }
@@ -55,7 +55,7 @@ module _ (rows : List ℕ) (i odd row columns n odd′ row′ : ℕ) (t : Counte
         most = omega arith;
         few = omega arith;
         rows-odd = omega (arith, odd-next);
-        columns-odd = columns-next;
+        columns-wrong = columns-next;
         inside = λ k. rw r (t .inside k);
         row-odd = λ k. rw r (t .row-odd (omega arith));
       }
@@ -78,7 +78,7 @@ counted-all rows i odd row columns b t h =
     record {
       bytes = b;
       rows-odd = t .rows-odd ∙ ap (λ (n : ℕ). count n (λ a. ones (getD rows a 0) % 2)) e ∙ sym (odd-rows-count rows);
-      columns-odd = t .columns-odd ∙ ap (λ (n : ℕ). bitXor wanted (total n (λ a. getD rows a 0))) e ∙ ap (bitXor wanted) (sym (summed-total rows));
+      columns-wrong = t .columns-wrong ∙ ap (λ (n : ℕ). bitXor wanted (total n (λ a. getD rows a 0))) e ∙ ap (bitXor wanted) (sym (summed-total rows));
       inside = t .inside;
       row-odd = t .row-odd;
     }
@@ -98,7 +98,7 @@ eights-none rows =
         most = omega arith;
         few = omega arith;
         rows-odd = refl;
-        columns-odd = ap (bitXor wanted) (total-none 8 (byte 0) (λ k l. none-byte k));
+        columns-wrong = ap (bitXor wanted) (total-none 8 (byte 0) (λ k l. none-byte k));
         inside = λ h. h;
         row-odd = λ h. absurd (not-suc-le-zero h);
       };
@@ -125,7 +125,7 @@ module _ (rows : List ℕ) (i odd row z x p odd′ row′ : ℕ) (t : EightsTo r
   columns-more : bitXor wanted (total 8 (byte (bitXor z x))) ≡ bitXor wanted (total (i + 8) (λ a. getD rows a 0))
   columns-more =
       let e : total 8 (byte z) ≡ total i (λ a. getD rows a 0) =
-      sym (xor-undo wanted (total 8 (byte z))) ∙ ap (bitXor wanted) (t .counted .columns-odd) ∙ xor-undo wanted (total i (λ a. getD rows a 0))
+      sym (xor-undo wanted (total 8 (byte z))) ∙ ap (bitXor wanted) (t .counted .columns-wrong) ∙ xor-undo wanted (total i (λ a. getD rows a 0))
       in ap (bitXor wanted) (eight-more rows i z x e (holds-at rows i x s))
 
   pub eights-odd : (p ≡ 0 → ⊥) → (k : ℕ) → SomeByte p k → odd′ ≡ odd + p % 255 → row′ ≡ i + k → EightsTo rows (i + 8) odd′ row′ (bitXor z x)
@@ -137,7 +137,7 @@ module _ (rows : List ℕ) (i odd row z x p odd′ row′ : ℕ) (t : EightsTo r
           most = omega arith;
           few = omega (arith, t .counted .few, few-here);
           rows-odd = e ∙ sym count-more;
-          columns-odd = columns-more;
+          columns-wrong = columns-more;
           inside = λ _. omega arith;
           row-odd = λ _. rw r (omega (arith, odd-byte k l, pos-of-not-zero (byte p k) (f .is d)));
         };
@@ -151,7 +151,7 @@ module _ (rows : List ℕ) (i odd row z x p odd′ row′ : ℕ) (t : EightsTo r
           most = omega arith;
           few = omega (arith, t .counted .few);
           rows-odd = omega (arith, count-more);
-          columns-odd = columns-more;
+          columns-wrong = columns-more;
           inside = λ k. rw r (t .counted .inside k);
           row-odd = λ k. rw r (t .counted .row-odd (omega arith));
         };

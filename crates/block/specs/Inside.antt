@@ -25,7 +25,7 @@ wanted = columnParity * 255
 pub record Counted (rows : List ℕ) (f : Faults) : Type 0 where
   pub bytes : Bytes rows
   pub rows-odd : f .rows ≡ oddRows rows
-  pub columns-odd : f .columns ≡ bitXor wanted (summed rows)
+  pub columns-wrong : f .columns ≡ bitXor wanted (summed rows)
   pub inside : 0 < length rows → f .row < length rows
   pub row-odd : 0 < f .rows → ones (getD rows (f .row) 0) % 2 ≡ 1
 

@@ -19,7 +19,7 @@ pub record CountedTo (rows : List ℕ) (i odd row columns : ℕ) : Type 0 where
   pub most : i ≤ length rows
   pub few : odd ≤ i
   pub rows-odd : odd ≡ count i (λ a. ones (getD rows a 0) % 2)
-  pub columns-odd : columns ≡ bitXor wanted (total i (λ a. getD rows a 0))
+  pub columns-wrong : columns ≡ bitXor wanted (total i (λ a. getD rows a 0))
   pub inside : 0 < length rows → row < length rows
   pub row-odd : 0 < odd → ones (getD rows row 0) % 2 ≡ 1
 

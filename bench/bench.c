@@ -98,7 +98,7 @@ static void fec_list(const uint8_t *input, uint8_t radius, reply *r) {
     }
 }
 
-/* libfec has no parity blocks. The peer here is plain C: parities of rows and columns, one bit flipped at most. A bit is set for each even column. */
+/* libfec has no parity blocks. The peer here is plain C: the odd rows, the even columns, and one bit flipped at most. */
 static void plain_block(const uint8_t *input, uint8_t radius, reply *r) {
     (void)radius;
     uint8_t columns = 255;

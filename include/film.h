@@ -141,7 +141,8 @@ film_ring film_read_ring(const uint8_t *ring, size_t ring_len, uint8_t radius, u
 
 /* ---- A block: 2 to 64 rows of eight bits; the lowest seven bits of all but the last row are data, the highest bit is the
  * row check, and the last row holds the column checks. It is proper when every row holds an even number of ones and every
- * column an odd number: dark film, all zeros, is no block. */
+ * column an odd number: dark film, all zeros, is no block. (Before version 2 every column was even: the last row was the
+ * inverse of what it is now. To read such a block, invert its last row.) */
 
 typedef struct film_block {
     uint8_t answer;

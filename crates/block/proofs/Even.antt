@@ -1,4 +1,4 @@
--- Blocks whose columns are even: each lies eight bits or more from every proper block, and is one once its last row is inverted. Dark rows, and bright ones.
+-- Blocks whose columns are even: each lies eight bits or more from every proper block, and is one once a row is inverted. Dark rows, and bright ones.
 use mathlib.Core.Path.{_≡_, refl, sym, ap, ap₂, _∙_}
 use mathlib.Core.List.{List, [], _∷_, map}
 use Prim.Native.Nat.{ℕ, zero, suc, _+_, _-_, _*_, _/_, _%_, _^_, _<_, _≤_}
@@ -30,8 +30,7 @@ pub even-summed : (xs : List ℕ) → Even xs → summed xs ≡ 0
 even-summed xs e = summed-is xs 0 (e .block .bytes) (omega arith) (λ j h. e .columns j h ∙ sym (none-bit j))
 
 pub is-even : (xs : List ℕ) → Block xs → oddRows xs ≡ 0 → summed xs ≡ 0 → Even xs
-is-even xs b o s =
-    record { block = b; even = none-even xs o; columns = λ j h. columns-are xs 0 s j ∙ none-bit j }
+is-even xs b o s = record { block = b; even = none-even xs o; columns = λ j h. columns-are xs 0 s j ∙ none-bit j }
 
 -- ---- and each of the eight columns has to differ from a proper block's
 
@@ -161,7 +160,7 @@ seven-ones-test = tt
 pub seven-ones : (j : ℕ) → j < 8 → ones (255 - 2 ^ j) ≡ 7
 seven-ones j h = eqb→eq (ones (255 - 2 ^ j)) 7 (each-at 8 (λ j. eqb (ones (255 - 2 ^ j)) 7) seven-ones-test j h)
 
--- are all of them turned, and that one once more
+-- to turn all but one is to turn all, and that one again
 pub seven-turned : (k : ℕ) (rows : List ℕ) (j : ℕ) → k < length rows → j < 8
     → set rows k (bitXor (getD rows k 0) (255 - 2 ^ j)) ≡ set (inverted k rows) k (bitXor (getD (inverted k rows) k 0) (2 ^ j))
 unfolding inverted

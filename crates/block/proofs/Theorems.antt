@@ -127,10 +127,11 @@ read-seven even old new r k j e hk hj room h =
     let l : length (inverted k even) ≡ length even = inverted-long k even in
     read-mended (inverted k even) old new r k j (inverted-proper k even hk e) (rw l hk) hj (room ∙ sym l) (rw (seven-turned k even j hk hj) at h)
 
+-- its distance there is seven
 pub seven-wrong : (even : List ℕ) (k j : ℕ) → k < length even → j < 8 → distance even (set even k (bitXor (getD even k 0) (255 - 2 ^ j))) ≡ 7
 seven-wrong even k j hk hj = distance-set even k (255 - 2 ^ j) hk ∙ seven-ones j hj
 
--- the proper block with given data rows is the one with even columns, its last row inverted
+-- the proper block with given data rows is the one whose columns are even, its last row inverted
 pub encoded-inverted : (given even block : List ℕ) → Even even → dataOf even ≡ given → Holds given block → block ≡ lastInverted even
 encoded-inverted given even block e d h =
     holds-encoded given block h

@@ -29,7 +29,7 @@ unfoldable pub column : ℕ → List ℕ → ℕ
 column j [] = 0
 column j (row ∷ rows) = row / 2 ^ j % 2 + column j rows
 
--- the parity of every column of a proper block: odd, so that dark film is none
+-- the parity of every column of a proper block: odd, for then dark film is no block
 abbrev pub columnParity : ℕ
 columnParity = 1
 

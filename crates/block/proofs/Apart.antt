@@ -7,7 +7,7 @@ use native.Mathlib.Omega.{arith}
 use lib.ListN.{length}
 use lib.Bits.{bitXor, xor-comm, xor-lt}
 use Rattle.numbers.proofs.Xor.{xor-assoc, xor-twice, xor-undo, xor-cancel}
-use Rattle.block.specs.Block.{Bytes, ones, Proper, distance, Near}
+use Rattle.block.specs.Block.{Bytes, ones, Proper, distance, Near, Mendable}
 use Rattle.block.specs.Inside.{oddRows, summed, wanted}
 use Rattle.block.proofs.Bits.{ones-parity, ones-most, ones-none, ones-apart}
 use Rattle.block.proofs.Columns.{proper-odd, proper-summed}
@@ -117,7 +117,14 @@ summed-most (x ∷ xs) (y ∷ ys) l =
 pub near-rows : (rows b : List ℕ) → Near rows b → oddRows rows ≡ distance rows b
 near-rows rows b p = odd-distance rows b (sym (p .long)) (proper-odd b (p .proper)) (p .within)
 
-pub near-columns : (rows b : List ℕ) → Near rows b → ones (bitXor wanted (summed rows)) ≡ distance rows b
+near-columns : (rows b : List ℕ) → Near rows b → ones (bitXor wanted (summed rows)) ≡ distance rows b
 near-columns rows b p =
     ap ones (xor-comm wanted (summed rows) ∙ ap (λ (w : ℕ). bitXor (summed rows) w) (sym (proper-summed b (p .proper))))
     ∙ summed-distance rows b (sym (p .long)) (p .within)
+
+-- so two columns of the wrong parity are too many
+pub wrong-columns : (rows : List ℕ) → 2 ≤ ones (bitXor wanted (summed rows)) → Mendable rows → ⊥
+wrong-columns rows two m =
+    let d : ones (bitXor wanted (summed rows)) ≡ distance rows (m .0) = near-columns rows (m .0) (m .1) in
+    let w : distance rows (m .0) ≤ 1 = m .1 .within in
+    omega arith

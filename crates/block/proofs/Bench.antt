@@ -6,11 +6,11 @@ use native.Mathlib.Omega.{arith}
 use lib.Count.{onesIn}
 use lib.Bits.{bitXor}
 use lib.ListN.{length}
-use Rattle.block.specs.Block.{Bytes, ones, Proper, distance, Near, Mendable}
+use Rattle.block.specs.Block.{Bytes, ones, Proper, distance, Near}
 use Rattle.block.specs.Promises.{Reads}
 use Rattle.block.specs.Inside.{oddRows, summed, wanted}
 use Rattle.block.proofs.Columns.{is-proper}
-use Rattle.block.proofs.Apart.{near-columns}
+use Rattle.block.proofs.Apart.{wrong-columns}
 use Rattle.block.proofs.Reading.{near-reads, none-near}
 
 -- what the sheet says of rows: they are proper, they are read as a block at a distance, or they are refused with a number
@@ -65,13 +65,6 @@ near-253 = record { long = refl; proper = proper-252; within = omega arith }
 distance-253 : 1 ≡ distance (3 ∷ 253 ∷ []) (3 ∷ 252 ∷ [])
 unfolding distance onesIn
 distance-253 = refl
-
--- rows with two columns or more of the wrong parity have no proper block within one bit
-wrong-columns : (rows : List ℕ) → 2 ≤ ones (bitXor wanted (summed rows)) → Mendable rows → ⊥
-wrong-columns rows two m =
-    let d : ones (bitXor wanted (summed rows)) ≡ distance rows (m .0) = near-columns rows (m .0) (m .1) in
-    let w : distance rows (m .0) ≤ 1 = m .1 .within in
-    omega arith
 
 columns-33 : 2 ≤ ones (bitXor wanted (summed (3 ∷ 3 ∷ [])))
 unfolding summed onesIn wanted

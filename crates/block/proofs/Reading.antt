@@ -15,7 +15,7 @@ use Rattle.block.specs.Promises.{Reads}
 use Rattle.block.specs.Inside.{oddRows, summed, wanted, Counted}
 use Rattle.block.proofs.Bits.{ones-parity}
 use Rattle.block.proofs.Columns.{summed-lt, wanted-lt, is-proper, wrong-parity, odd-set, summed-set, distance-set, bytes-set}
-use Rattle.block.proofs.Apart.{near-rows, near-columns}
+use Rattle.block.proofs.Apart.{near-rows, wrong-columns}
 
 pub few-rows : (rows old : List ℕ) → length rows < 2 → Reads rows old (8 ∷ 0 ∷ []) old
 unfolding Reads
@@ -67,11 +67,8 @@ module _ (rows old : List ℕ) (least : 2 ≤ length rows) (most : length rows �
       -- and so are two columns of the wrong parity
       pub many-columns : 1 < d → Reads rows old (9 ∷ 0 ∷ []) old
       many-columns h =
-          none-near room
-          (λ m.
-          let e : d ≡ distance rows (m .0) = ends ∙ ap ones (counted .columns-wrong) ∙ near-columns rows (m .0) (m .1) in
-          let w : distance rows (m .0) ≤ 1 = m .1 .within in
-          omega arith)
+          let e : d ≡ ones (bitXor wanted (summed rows)) = ends ∙ ap ones (counted .columns-wrong) in
+          none-near room (wrong-columns rows (omega arith))
 
       module _ (few : f .rows ≤ 1) (small : d ≤ 1) where
         -- the odd row with the wrong column's bit turned, and the rows with it

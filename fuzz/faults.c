@@ -4,9 +4,19 @@
 #include "film.h"
 #include <string.h>
 
+film_element __real_film_quotient(uint8_t u, uint8_t v);
 film_line __real_film_read_line(const uint8_t *word, size_t word_len, uint8_t radius, uint8_t *out, size_t out_len);
 film_list __real_film_list_ring(const uint8_t *ring, size_t ring_len, uint8_t radius, uint8_t *out, size_t out_len);
 film_block __real_film_read_block(const uint8_t *rows, size_t rows_len, uint8_t *out, size_t out_len);
+
+film_element __wrap_film_quotient(uint8_t u, uint8_t v) {
+    film_element r = __real_film_quotient(u, v);
+#if FAULT == 10 /* nothing divided by nothing, and given as 0 */
+    if (r.answer == FILM_QUOTIENT_BY_ZERO && u == 0)
+        r.answer = FILM_DONE;
+#endif
+    return r;
+}
 
 film_line __wrap_film_read_line(const uint8_t *word, size_t word_len, uint8_t radius, uint8_t *out, size_t out_len) {
     film_line r = __real_film_read_line(word, word_len, radius, out, out_len);

@@ -32,7 +32,7 @@ _Static_assert(FILM_LAST_REFUSAL < 64, "an answer for each bit");
 static const uint64_t can_give[CALLS] = {
     CAN(0) | CAN(2),
     CAN(0) | CAN(2),
-    CAN(0) | CAN(2),
+    CAN(0) | CAN(2) | CAN(13),
     CAN(0) | CAN(1) | CAN(5) | CAN(2) | CAN(4),
     CAN(0) | CAN(11) | CAN(2),
     CAN(0) | CAN(11) | CAN(12) | CAN(2),
@@ -259,7 +259,10 @@ static void field_calls(void) {
     }
     HOLDS(sum.answer == 0 && sum.value == (u ^ v));
     HOLDS(times.answer == 0 && times.value == product(u, v));
-    HOLDS(over.answer == 0 && over.value < 64 && (v == 0 ? over.value == 0 : product(over.value, v) == u));
+    if (v == 0)
+        HOLDS(over.answer == 13 && over.value == 0);
+    else
+        HOLDS(over.answer == 0 && over.value < 64 && product(over.value, v) == u);
 }
 
 static void register_calls(void) {

@@ -24,7 +24,7 @@ extern "C" {
 
 /* ---- The version of this header. tools/tables writes its three numbers from version.txt. */
 
-#define FILM_VERSION_MAJOR 2
+#define FILM_VERSION_MAJOR 3
 #define FILM_VERSION_MINOR 0
 #define FILM_VERSION_PATCH 0
 #define FILM_VERSION (1000000 * FILM_VERSION_MAJOR + 1000 * FILM_VERSION_MINOR + FILM_VERSION_PATCH)
@@ -38,19 +38,20 @@ uint32_t film_version(void);
 
 enum {
     FILM_DONE = 0,
-    FILM_INPUT_LENGTH = 1,    /* a line or ring is not 63 long, or text to be encoded is not 50 long */
-    FILM_VALUE_OVER = 2,      /* a character (a register's too) or field operand is over 63, or a data row over 127 */
-    FILM_RADIUS_OVER = 3,     /* radius over 5 */
-    FILM_NUMBER_OVER = 4,     /* number over 4095 */
-    FILM_OUTPUT_LENGTH = 5,   /* output length differs from the one stated */
-    FILM_NO_LINE = 6,         /* no line within the radius; for ring reading, an empty list */
-    FILM_OTHER_NUMBER = 7,    /* the line found has another number than the wanted one */
-    FILM_ROW_COUNT = 8,       /* block rows outside 2..64, or data rows outside 1..63 */
-    FILM_NO_BLOCK = 9,        /* no proper block within one bit */
-    FILM_MANY_STARTS = 10,    /* ring reading: two or more entries in the list */
-    FILM_REGISTER_FULL = 11,  /* a step is asked of a register that holds 52 characters, or anything of one whose count is above 52 */
-    FILM_REGISTER_SHORT = 12, /* register holds fewer than 52 */
-    FILM_LAST_REFUSAL = 12    /* the highest of these numbers */
+    FILM_INPUT_LENGTH = 1,      /* a line or ring is not 63 long, or text to be encoded is not 50 long */
+    FILM_VALUE_OVER = 2,        /* a character (a register's too) or field operand is over 63, or a data row over 127 */
+    FILM_RADIUS_OVER = 3,       /* radius over 5 */
+    FILM_NUMBER_OVER = 4,       /* number over 4095 */
+    FILM_OUTPUT_LENGTH = 5,     /* output length differs from the one stated */
+    FILM_NO_LINE = 6,           /* no line within the radius; for ring reading, an empty list */
+    FILM_OTHER_NUMBER = 7,      /* the line found has another number than the wanted one */
+    FILM_ROW_COUNT = 8,         /* block rows outside 2..64, or data rows outside 1..63 */
+    FILM_NO_BLOCK = 9,          /* no proper block within one bit */
+    FILM_MANY_STARTS = 10,      /* ring reading: two or more entries in the list */
+    FILM_REGISTER_FULL = 11,    /* a step is asked of a register that holds 52 characters, or anything of one whose count is above 52 */
+    FILM_REGISTER_SHORT = 12,   /* register holds fewer than 52 */
+    FILM_QUOTIENT_BY_ZERO = 13, /* quotient by zero */
+    FILM_LAST_REFUSAL = 13      /* the highest of these numbers */
 };
 
 /* ---- Lengths, in bytes. */
@@ -62,7 +63,7 @@ enum {
     FILM_CHECKS = 11      /* a register's characters, and the checks */
 };
 
-/* ---- The field of 64 elements: sum, product and quotient. A quotient by 0 is 0. Refusals: 2. */
+/* ---- The field of 64 elements: sum, product and quotient. Refusals: 2; of a quotient by 0, once both operands are elements, 13. */
 
 typedef struct film_element {
     uint8_t answer;

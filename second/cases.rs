@@ -11,6 +11,7 @@ mod false_starts;
 mod field;
 mod line;
 mod ring;
+mod twice;
 
 use crate::code::Code;
 
@@ -96,6 +97,7 @@ pub fn stored() -> (Vec<u8>, String) {
         adding::add_all,
         false_starts::add_all,
         even::add_all,
+        twice::add_all,
     ];
     for add_all in sections {
         add_all(&mut cases);

@@ -67,11 +67,17 @@ impl Tray<'_> {
         with_errors(&line, &errors[..self.random.below(13)])
     }
 
-    /// A word whose sums follow a recurrence of up to five terms, any or with all its roots among the places; the last sum may be another.
+    /// A word whose sums follow a recurrence of up to five terms: any, or with all its roots among the places, at times one of them twice; the last sum
+    /// may be another.
     fn following_a_recurrence(&mut self) -> Vec<u8> {
         let length = 1 + self.random.below(5);
-        let recurrence = match self.random.below(2) {
+        let recurrence = match self.random.below(3) {
             0 => self.code.with_roots(&random_addresses(&mut self.random, length)),
+            1 => {
+                let mut roots = random_addresses(&mut self.random, length);
+                roots[length - 1] = roots[0];
+                self.code.with_roots(&roots)
+            }
             _ => [vec![1], self.random.bytes(length, 64)].concat(),
         };
         let mut sums = self.code.continued(&self.random.bytes(length, 64), &recurrence);

@@ -26,12 +26,9 @@ pub fn product(u: u8, v: u8) -> u8 {
     powers()[(log(u) + log(v)) % 63]
 }
 
-/// The one w with v w = u; 0 for v = 0.
-pub fn quotient(u: u8, v: u8) -> u8 {
-    if v == 0 {
-        return 0;
-    }
+/// The one w with v w = u. By 0 there is none: no w has the product u, or, where u is 0, every w has it.
+pub fn quotient(u: u8, v: u8) -> Option<u8> {
     let all: Vec<u8> = (0..64).filter(|&w| product(v, w) == u).collect();
-    assert_eq!(all.len(), 1);
-    all[0]
+    assert_eq!(all.len(), if v != 0 { 1 } else if u != 0 { 0 } else { 64 });
+    if all.len() == 1 { Some(all[0]) } else { None }
 }

@@ -24,6 +24,7 @@ mod refusals;
 #[path = "library/requests.rs"]
 mod requests;
 mod ring;
+mod twice;
 
 use code::{added, marks, with_errors, Code};
 use interface::*;
@@ -36,13 +37,13 @@ use std::fmt::Debug;
 use std::process::exit;
 
 /// The version that the library has to tell. tools/tables writes it from version.txt.
-const VERSION: u32 = 2000000;
+const VERSION: u32 = 3000000;
 
 /// Each call, and every answer that it can give.
 const ANSWERS: [(&str, &[u8]); 12] = [
     ("sum", &[0, VALUE_OVER]),
     ("product", &[0, VALUE_OVER]),
-    ("quotient", &[0, VALUE_OVER]),
+    ("quotient", &[0, VALUE_OVER, QUOTIENT_BY_ZERO]),
     ("encode_line", &[0, INPUT_LENGTH, VALUE_OVER, NUMBER_OVER, OUTPUT_LENGTH]),
     ("read_line", &[0, INPUT_LENGTH, VALUE_OVER, RADIUS_OVER, OUTPUT_LENGTH, NO_LINE]),
     ("read_line_wanted", &[0, INPUT_LENGTH, VALUE_OVER, RADIUS_OVER, NUMBER_OVER, OUTPUT_LENGTH, NO_LINE, OTHER_NUMBER]),
@@ -160,14 +161,20 @@ impl Comparison {
 
     /// All pairs of operands.
     fn operands(&mut self) {
-        type Operation = (&'static str, unsafe extern "C" fn(u8, u8) -> Element, fn(u8, u8) -> u8);
-        let operations: [Operation; 3] =
-            [("sum", film_sum, |u, v| u ^ v), ("product", film_product, field::product), ("quotient", film_quotient, field::quotient)];
+        type Operation = (&'static str, unsafe extern "C" fn(u8, u8) -> Element, fn(u8, u8) -> Option<u8>);
+        let operations: [Operation; 3] = [
+            ("sum", film_sum, |u, v| Some(u ^ v)),
+            ("product", film_product, |u, v| Some(field::product(u, v))),
+            ("quotient", film_quotient, field::quotient),
+        ];
         for (name, library, second) in operations {
             for (u, v) in (0..=255).flat_map(|u| (0..=255).map(move |v| (u, v))) {
                 let r = unsafe { library(u, v) };
-                let due = if u > 63 || v > 63 { (vec![VALUE_OVER as usize], 0) } else { (vec![0], second(u, v)) };
-                self.hold(name, &(u, v), (vec![r.answer as usize], r.value), due);
+                let (answer, value) = match u > 63 || v > 63 {
+                    true => (VALUE_OVER, 0),
+                    false => second(u, v).map_or((QUOTIENT_BY_ZERO, 0), |value| (0, value)),
+                };
+                self.hold(name, &(u, v), (vec![r.answer as usize], r.value), (vec![answer as usize], value));
             }
         }
     }
@@ -345,6 +352,7 @@ fn main() {
             comparison.lines_added();
             comparison.starts_counted();
             comparison.even_columns();
+            comparison.roots_twice();
         }
         if i % 64 == 0 {
             comparison.by_the_character();

@@ -19,6 +19,7 @@ mod refusals;
 mod ring;
 mod sheet;
 mod tray;
+mod twice;
 
 use std::io::{self, Read};
 use std::process::exit;

@@ -27,3 +27,5 @@ pub const MANY_STARTS: u8 = 10;
 pub const REGISTER_FULL: u8 = 11;
 /// Register holds fewer than 52.
 pub const REGISTER_SHORT: u8 = 12;
+/// Quotient by zero.
+pub const QUOTIENT_BY_ZERO: u8 = 13;

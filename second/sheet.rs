@@ -41,7 +41,7 @@ pub fn rows() -> String {
     [
         row("32 times 2:", "3"),
         row("33 times 2:", "1"),
-        row("quotient of 5 by 0:", "0"),
+        row("quotient of 5 by 0:", "refused 13"),
         row("Z:", "a line"),
         row("63 zeros:", "no line"),
         row("63 zeros, radius 3:", &zero_line(3)),

@@ -40,7 +40,11 @@ static uint8_t zeros[ROOM], z[FILM_CHARACTERS];
 static void field(void) {
     EXPECT(film_sum(5, 3).answer == 0 && film_sum(5, 3).value == 6);
     EXPECT(film_product(32, 2).value == 3 && film_product(33, 2).value == 1);
-    EXPECT(film_quotient(5, 0).answer == 0 && film_quotient(5, 0).value == 0 && film_quotient(1, 2).value == 33);
+    EXPECT(film_quotient(1, 2).value == 33 && film_quotient(0, 5).answer == FILM_DONE && film_quotient(0, 5).value == 0);
+    for (int u = 0; u < 256; u++) {
+        film_element r = film_quotient((uint8_t)u, 0);
+        EXPECT(r.answer == (u > 63 ? FILM_VALUE_OVER : FILM_QUOTIENT_BY_ZERO) && r.value == 0);
+    }
     for (int bad = 64; bad < 256; bad++) {
         film_element r[] = {film_sum((uint8_t)bad, 1), film_sum(1, (uint8_t)bad), film_product((uint8_t)bad, 1),
                             film_product(1, (uint8_t)bad), film_quotient((uint8_t)bad, 1), film_quotient(1, (uint8_t)bad)};

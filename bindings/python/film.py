@@ -20,7 +20,7 @@ import pathlib
 from typing import NamedTuple, Optional
 
 # tools/tables writes this from version.txt, and the refusals below from refusals.txt.
-__version__ = "2.0.0"
+__version__ = "3.0.0"
 
 _u8 = ctypes.c_uint8
 _u16 = ctypes.c_uint16
@@ -40,6 +40,7 @@ REFUSALS = {
     10: "ring reading: two or more entries in the list",
     11: "a step is asked of a register that holds 52 characters, or anything of one whose count is above 52",
     12: "register holds fewer than 52",
+    13: "quotient by zero",
 }
 
 
@@ -200,7 +201,7 @@ def product(u, v):
 
 
 def quotient(u, v):
-    """The quotient of two elements of the field; a quotient by 0 is 0."""
+    """The quotient of two elements of the field; a quotient by 0 is refused with 13."""
     return _value(_library.film_quotient(_byte(u), _byte(v)))
 
 

@@ -24,7 +24,10 @@ class Tests(unittest.TestCase):
 
     def test_field(self):
         self.assertEqual((film.sum(5, 3), film.product(32, 2), film.product(33, 2)), (6, 3, 1))
-        self.assertEqual((film.quotient(5, 0), film.quotient(1, 2)), (0, 33))
+        self.assertEqual((film.quotient(1, 2), film.quotient(0, 5)), (33, 0))
+        for dividend in (0, 5, 63):
+            self.refused(13, film.quotient, dividend, 0)
+        self.refused(2, film.quotient, 70, 0)
         for call in (film.sum, film.product, film.quotient):
             for bad in (64, 255, 256, 320, 10**6):
                 self.refused(2, call, bad, 1)

@@ -13,7 +13,7 @@ pub(super) fn add(cases: &mut Cases, word: &[u8], radius: u8, wanted: Option<u16
 }
 
 /// A word of 63 characters, whose nearest line is also found by trial.
-fn read(cases: &mut Cases, word: &[u8], radius: u8, wanted: Option<u16>) {
+pub(super) fn read(cases: &mut Cases, word: &[u8], radius: u8, wanted: Option<u16>) {
     let tried = cases.code.trial(&cases.code.to_mend(word));
     match cases.code.nearest(word) {
         None => assert!(tried.is_none()),

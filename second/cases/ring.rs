@@ -16,7 +16,7 @@ pub fn add(cases: &mut Cases, ring: &[u8], radius: u8, list_room: usize, read_ro
 }
 
 /// A ring of 63 characters. Of its words some are also read by trial, others for each ring.
-fn both(cases: &mut Cases, ring: &[u8], radius: u8) {
+pub(super) fn both(cases: &mut Cases, ring: &[u8], radius: u8) {
     let rings_before = cases.count / 2; // a ring is listed and read
     for start in (0..126).filter(|start| start % 16 == rings_before % 16) {
         let word = word_at(ring, start);

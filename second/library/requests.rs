@@ -1,7 +1,8 @@
-//! The parts of the comparison that the change requests speak of: lines merged by exclusive or, undamaged rings, and blocks whose columns are even.
+//! The parts of the comparison that the change requests speak of: lines merged by exclusive or, undamaged rings, blocks whose columns are even, and words
+//! whose locator has a root twice.
 
 use crate::line::{number, random_line};
-use crate::{adding, even, false_starts, Comparison};
+use crate::{adding, even, false_starts, ring, twice, Comparison};
 
 impl Comparison {
     /// Lines merged, and a clean word turned or reversed: each word is read, and the line that it is read as is encoded.
@@ -58,5 +59,16 @@ impl Comparison {
             self.read_block(&rows, count);
         }
         self.encode_block(&even::data_of(&even), count);
+    }
+    /// A word whose locator has a root twice, read at every radius, and recorded on a ring.
+    pub fn roots_twice(&mut self) {
+        let roots = 2 + self.random.below(4);
+        let word = twice::random_word(&self.code, &mut self.random, roots);
+        for radius in 0..=5 {
+            self.read_line(&word, radius, None, 63);
+        }
+        let recorded = ring::recorded(&word, self.random.below(126));
+        self.list_ring(&recorded, 5, 126);
+        self.read_ring(&recorded, 5, 63);
     }
 }

@@ -26,7 +26,7 @@ pub use refusal::Refusal;
 
 /// The version that this crate was made for: a million times the major number, a thousand times the minor, and the patch. It is the crate's own;
 /// tools/tables writes it from version.txt.
-pub const VERSION: u32 = 2000000;
+pub const VERSION: u32 = 3000000;
 
 /// The version of the library that is linked, written as [`VERSION`] is.
 pub fn version() -> u32 {
@@ -50,7 +50,7 @@ pub fn product(u: u8, v: u8) -> Result<u8, Refusal> {
     answered(r.answer, r.value)
 }
 
-/// The quotient of two elements of the field; a quotient by 0 is 0.
+/// The quotient of two elements of the field; a quotient by 0 is refused ([`Refusal::QuotientByZero`]).
 pub fn quotient(u: u8, v: u8) -> Result<u8, Refusal> {
     let r = library::quotient(u, v);
     answered(r.answer, r.value)

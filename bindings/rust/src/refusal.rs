@@ -30,6 +30,8 @@ pub enum Refusal {
     RegisterFull,
     /// Register holds fewer than 52.
     RegisterShort,
+    /// Quotient by zero.
+    QuotientByZero,
     /// A number that this crate does not know: the library that is linked is a later one.
     Unknown(u8),
 }
@@ -49,6 +51,7 @@ impl Refusal {
         Refusal::ManyStarts,
         Refusal::RegisterFull,
         Refusal::RegisterShort,
+        Refusal::QuotientByZero,
     ];
 
     /// The paper's number.
@@ -66,6 +69,7 @@ impl Refusal {
             Refusal::ManyStarts => 10,
             Refusal::RegisterFull => 11,
             Refusal::RegisterShort => 12,
+            Refusal::QuotientByZero => 13,
             Refusal::Unknown(number) => number,
         }
     }
@@ -95,6 +99,7 @@ impl fmt::Display for Refusal {
             Refusal::ManyStarts => "ring reading: two or more entries in the list",
             Refusal::RegisterFull => "a step is asked of a register that holds 52 characters, or anything of one whose count is above 52",
             Refusal::RegisterShort => "register holds fewer than 52",
+            Refusal::QuotientByZero => "quotient by zero",
             Refusal::Unknown(_) => "a reason that this crate does not know",
         };
         write!(f, "refused ({}): {why}", self.number())

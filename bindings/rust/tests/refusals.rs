@@ -25,8 +25,11 @@ fn the_field() {
     assert_eq!(film::sum(5, 3), Ok(6));
     assert_eq!(film::product(32, 2), Ok(3));
     assert_eq!(film::product(33, 2), Ok(1));
-    assert_eq!(film::quotient(5, 0), Ok(0));
     assert_eq!(film::quotient(1, 2), Ok(33));
+    assert_eq!(film::quotient(0, 5), Ok(0));
+    assert_eq!(film::quotient(5, 0), Err(Refusal::QuotientByZero));
+    assert_eq!(film::quotient(0, 0), Err(Refusal::QuotientByZero));
+    assert_eq!(film::quotient(70, 0), Err(Refusal::ValueOver));
     for call in [film::sum, film::product, film::quotient] {
         assert_eq!(call(64, 0), Err(Refusal::ValueOver));
         assert_eq!(call(0, 255), Err(Refusal::ValueOver));
@@ -187,7 +190,7 @@ fn numbers_of_refusals() {
         assert_eq!(Refusal::of_answer(refusal.number()), Some(refusal));
         assert!(refusal.to_string().starts_with(&format!("refused ({}): ", refusal.number())));
     }
-    assert_eq!((Refusal::InputLength.number(), Refusal::NoLine.number(), Refusal::RegisterShort.number()), (1, 6, 12));
+    assert_eq!((Refusal::InputLength.number(), Refusal::NoLine.number(), Refusal::QuotientByZero.number()), (1, 6, 13));
     assert_eq!(Refusal::NoLine.to_string(), "refused (6): no line within the radius; for ring reading, an empty list");
 }
 

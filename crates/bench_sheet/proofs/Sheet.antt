@@ -5,6 +5,8 @@ use Prim.Native.Nat.{ℕ, _+_, _-_, _%_, _≤_}
 use native.Mathlib.Omega.{arith}
 use lib.ListN.{getD, set, replicate, drop}
 use Rattle.field.specs.Field.{sum, timesX, shifted, product, α, power, Quotient, Log}
+use Rattle.field.specs.Promises.{Divides}
+use Rattle.field.proofs.Theorems.{refused-by-zero}
 use Rattle.code.specs.Word.{powerSum, added, marks, Clean, Line, distance}
 use Rattle.code.proofs.Theorems.{zero-line, twelve-apart, one-wrong-character}
 use Rattle.code.proofs.Lines.{unmarked}
@@ -21,8 +23,8 @@ Z = set (set (set (replicate 63 0) 52 32) 55 8) 62 1
 pub data Row : Type 0 where
   -- the product of two numbers
   product-is : ℕ → ℕ → ℕ → Row
-  -- the quotient of two numbers
-  quotient-is : ℕ → ℕ → ℕ → Row
+  -- the refusal of a quotient of two numbers
+  no-quotient : ℕ → ℕ → ℕ → Row
   -- a line
   a-line : List ℕ → Row
   -- no line, and its distance from a line
@@ -37,13 +39,12 @@ pub data Row : Type 0 where
 -- S_1 by S_0 is α^n, and whatever their logarithms the rule gives the address
 pub record Wrong (w : List ℕ) (n a : ℕ) : Type 0 where
   pub ratio : Quotient (powerSum 1 (added w marks)) (powerSum 0 (added w marks)) (power α n)
-  pub divisor : powerSum 0 (added w marks) ≡ 0 → ⊥
   pub address : (k m : ℕ) → Log (powerSum 1 (added w marks)) k → Log (powerSum 0 (added w marks)) m → a ≡ (62 + (63 + m - k)) % 63
 
 -- that it is true
 abbrev pub Says : Row → Type 0
 Says (product-is u v w) = product u v ≡ w
-Says (quotient-is u v w) = Quotient u v w
+Says (no-quotient u v n) = Divides u v (n ∷ 0 ∷ [])
 Says (a-line l) = Line l
 Says (no-line w d l) = (Line w → ⊥) × Line l × (distance w l ≡ d)
 Says (checks-are t n checks) = (l : List ℕ) × LineWith t n l × (drop 52 l ≡ checks)
@@ -54,7 +55,7 @@ abbrev pub table : List Row
 table =
     product-is 32 2 3
     ∷ product-is 33 2 1
-    ∷ quotient-is 5 0 0
+    ∷ no-quotient 5 0 13
     ∷ a-line Z
     ∷ no-line (replicate 63 0) 3 Z
     ∷ checks-are text65 65 (32 ∷ 0 ∷ 0 ∷ 8 ∷ 0 ∷ 0 ∷ 0 ∷ 1 ∷ 1 ∷ 0 ∷ 1 ∷ [])
@@ -111,7 +112,6 @@ wrong-60 =
     let e = wrong-unmarked in
     record {
       ratio = rw e (w .ratio);
-      divisor = λ z. let v : powerSum 0 (added (set Z 60 5) marks) ≡ 5 = rw e (w .zeroth) in omega arith;
       address = rw e (w .address);
     }
 
@@ -122,7 +122,7 @@ starred-rows = (
   (
     products .1,
     (
-      record { element = omega arith; exact = λ d. absurd (d refl); by-zero = λ z. refl },
+      refused-by-zero 5 (omega arith),
       (
         z-line,
         (

@@ -4,7 +4,6 @@ use mathlib.Core.List.{List}
 use Prim.Native.Nat.{ℕ, _+_, _-_, _*_, _%_, _<_}
 use native.Mathlib.Omega.{arith}
 use lib.ListN.{getD, set}
-use Rattle.numbers.proofs.Cases.{not-zero-of-pos}
 use Rattle.field.specs.Field.{sum, product, α, power, Log, Quotient}
 use Rattle.field.proofs.Laws
 use Rattle.field.proofs.Theorems.{one-log}
@@ -36,9 +35,9 @@ module _ (w : List ℕ) (a v : ℕ) (c : Clean w) (ha : a < 63) (hv : v < 64) wh
   pub sums-ratio : 0 < v → Quotient (powerSum 1 (wrongAt w a v)) (powerSum 0 (wrongAt w a v)) (power α (62 - a))
   sums-ratio p =
       record {
+        divisor = rw zeroth-sum p;
         element = Laws.power-lt α (62 - a);
-        exact = λ d. ap (λ (x : ℕ). product x (power α (62 - a))) zeroth-sum ∙ sym first-sum;
-        by-zero = λ z. absurd (not-zero-of-pos p (sym zeroth-sum ∙ z));
+        exact = ap (λ (x : ℕ). product x (power α (62 - a))) zeroth-sum ∙ sym first-sum;
       }
 
   -- α^m is α^n α^(62 - a)

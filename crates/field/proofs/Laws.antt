@@ -11,8 +11,8 @@ use lib.Dec.{T, T-not, eqb, eqb→eq, ltb, ltb→lt}
 use Rattle.numbers.proofs.Cases.{pos-of-not-zero, not-zero-of-pos, bit-cases}
 use Rattle.numbers.proofs.Range.{both, both-left, both-right, each, each-at, eq→eqb}
 use Rattle.numbers.proofs.Xor.{xor-assoc, xor-double}
-use Rattle.field.specs.Field.{sum, timesX, shifted, product, α, power, Log}
-use Rattle.field.specs.Inside.{inverse, Divided}
+use Rattle.field.specs.Field.{sum, timesX, shifted, product, α, power, Log, Quotient}
+use Rattle.field.specs.Inside.{inverse}
 
 -- ---- the sum
 
@@ -366,24 +366,15 @@ power-distinct m n h k e =
 
 -- ---- division
 
--- u times the inverse of v divides u by v
-pub divided-by : (u v : ℕ) → Divided u v (product u (inverse v))
-divided-by u v = record { element = product-lt u (inverse v); exact = exact }
-  where
-    low-inverse : (v % 64 ≡ 0 → ⊥) → product v (inverse v) ≡ 1
-    low-inverse d =
-        ap (product v) (inverse-low v) ∙ sym (product-low v (inverse (v % 64)))
-        ∙ inverse-right (v % 64) (pos-of-not-zero (v % 64) d) (omega arith)
+-- an element that is not 0 may be divided by
+pub may-divide : (v : ℕ) → v < 64 → (v ≡ 0 → ⊥) → 0 < v % 64
+may-divide v h d = let p : 0 < v = pos-of-not-zero v d in omega arith
 
-    exact : (v % 64 ≡ 0 → ⊥) → product v (product u (inverse v)) ≡ u % 64
-    exact d =
-        product-left-comm v u (inverse v) ∙ ap (product u) (low-inverse d) ∙ product-comm u 1 ∙ one-product-low u
-
--- and nothing else does
-pub divided-only : (u v w x : ℕ) → (v % 64 ≡ 0 → ⊥) → Divided u v w → x < 64 → product v x ≡ u % 64 → x ≡ w
-divided-only u v w x d q h e =
-    product-cancel-left (v % 64) x w (pos-of-not-zero (v % 64) d) (omega arith) h (q .element)
-    (product-low v x ∙ e ∙ sym (q .exact d) ∙ sym (product-low v w))
-
-pub divided-is : (u v w : ℕ) → (v % 64 ≡ 0 → ⊥) → Divided u v w → w ≡ product u (inverse v)
-divided-is u v w d q = divided-only u v (product u (inverse v)) w d (divided-by u v) (q .element) (q .exact d)
+-- u times the inverse of v is the quotient of u by v
+pub quotient-by : (u v : ℕ) → u < 64 → 0 < v → v < 64 → Quotient u v (product u (inverse v))
+quotient-by u v hu p hv =
+    record {
+      divisor = p;
+      element = product-lt u (inverse v);
+      exact = product-left-comm v u (inverse v) ∙ ap (product u) (inverse-right v p hv) ∙ product-one u hu;
+    }

@@ -1,20 +1,23 @@
--- The field's theorems, in the paper's order: the powers of α, the quotient, and that each entry point allows one answer.
+-- The field's theorems, in the paper's order: the powers of α, the quotient, that each entry point allows one answer, and which answer a quotient by 0 has.
 use mathlib.Core.Path.{_≡_, refl, sym, ap, _∙_}
+use mathlib.Core.Bool.{true, false}
 use mathlib.Core.Logic.{⊎-elim}
 use mathlib.Core.List.{List, [], _∷_, map}
 use Prim.Native.Nat.{ℕ, zero, _<_, _≤_}
 use native.Mathlib.Omega.{arith}
 use lib.ListN.{getD}
-use Rattle.refusal.proofs.Laws.{one-refusal, refusal-positive}
+use Rattle.refusal.specs.declared.Refusal.the-variants.{ValueOver, QuotientByZero}
+use Rattle.refusal.specs.Promise.{Test, _else_}
+use Rattle.refusal.proofs.Laws.{one-refusal, refusal-positive, Passed, tells-no}
 use Rattle.refusal.proofs.Theorems.{one-reply}
-use Rattle.numbers.proofs.Cases.{same-or-not, le-or-lt, pos-of-not-zero}
+use Rattle.numbers.proofs.Cases.{same-or-not, le-or-lt}
 use Rattle.field.specs.declared.Element.{Element}
 use Rattle.field.specs.declared.Element.the-variants.{Value, Refused}
 use Rattle.field.specs.Field.{sum, timesX, shifted, product, α, power, Log, Quotient}
 use Rattle.field.specs.Inside.{inverse}
-use Rattle.field.specs.Promises.{elementNumbers, operandTests, OneValue, Operates, Sums, Multiplies, Divides}
+use Rattle.field.specs.Promises.{elementNumbers, Operands, operandTests, divisionTests, OneValue, Operates, Sums, Multiplies, Divides}
 use Rattle.field.proofs.Laws
-use Rattle.field.proofs.Turns.{zero-quotient, divided-quotient}
+use Rattle.field.proofs.Turns.{none-over, not-elements, by-nothing, by-something}
 
 -- the powers of α run 1, 2, 4, 8, 16, 32, 3, 6, 12, 24, 48, 35, ..
 pub first-powers : map (power α) (0 ∷ 1 ∷ 2 ∷ 3 ∷ 4 ∷ 5 ∷ 6 ∷ 7 ∷ 8 ∷ 9 ∷ 10 ∷ 11 ∷ []) ≡ 1 ∷ 2 ∷ 4 ∷ 8 ∷ 16 ∷ 32 ∷ 3 ∷ 6 ∷ 12 ∷ 24 ∷ 48 ∷ 35 ∷ []
@@ -41,43 +44,65 @@ one-log v m n p q =
     (λ (h : n < m). absurd (Laws.power-distinct n m h (p .below) (q .is ∙ sym (p .is)))) (le-or-lt m n))
     (same-or-not m n)
 
--- every two elements have a quotient, and one only
-pub a-quotient : (u v : ℕ) → u < 64 → v < 64 → (w : ℕ) × Quotient u v w
-a-quotient u v hu hv =
-    ⊎-elim (λ (e : v ≡ 0). (0, zero-quotient u v e))
-    (λ (d : v ≡ 0 → ⊥). (product u (inverse v), divided-quotient u v (product u (inverse v)) (record { first = omega arith; second = omega arith }) d (Laws.divided-by u v)))
-    (same-or-not v 0)
+-- every two elements of which the second is not 0 have a quotient, and one only
+pub a-quotient : (u v : ℕ) → u < 64 → 0 < v → v < 64 → (w : ℕ) × Quotient u v w
+a-quotient u v hu p hv = (product u (inverse v), Laws.quotient-by u v hu p hv)
 
 pub one-quotient : (u v w x : ℕ) → v < 64 → Quotient u v w → Quotient u v x → w ≡ x
-one-quotient u v w x h p q =
-    ⊎-elim (λ (e : v ≡ 0). p .by-zero e ∙ sym (q .by-zero e))
-    (λ (d : v ≡ 0 → ⊥). Laws.product-cancel-left v w x (pos-of-not-zero v d) h (p .element) (q .element) (p .exact d ∙ sym (q .exact d)))
-    (same-or-not v 0)
+one-quotient u v w x h p q = Laws.product-cancel-left v w x (p .divisor) h (p .element) (q .element) (p .exact ∙ sym (q .exact))
 
 -- ---- any two answers that an entry point allows are equal
 
--- the numbers fix the answer
+-- where the tests hold and the value is determined, so are the numbers
+one-operation : (ts : List Test) (Is : ℕ → Type 0) → (Passed ts → (w x : ℕ) → Is w → Is x → w ≡ x) → (a b : List ℕ) → Operates ts Is a → Operates ts Is b → a ≡ b
+unfolding Operates
+one-operation ts Is one =
+    one-reply ts (OneValue Is) 1
+    (λ t f g a b. a .alone ∙ ap (λ (w : ℕ). w ∷ []) (one t (a .value) (b .value) (a .is) (b .is)) ∙ sym (b .alone))
+
+pub same-sums : (u v : ℕ) (a b : List ℕ) → Sums u v a → Sums u v b → a ≡ b
+same-sums u v = one-operation (operandTests u v) (λ w. w ≡ sum u v) (λ t w x p q. p ∙ sym q)
+
+pub same-products : (u v : ℕ) (a b : List ℕ) → Multiplies u v a → Multiplies u v b → a ≡ b
+same-products u v = one-operation (operandTests u v) (λ w. w ≡ product u v) (λ t w x p q. p ∙ sym q)
+
+pub same-quotients : (u v : ℕ) (a b : List ℕ) → Divides u v a → Divides u v b → a ≡ b
+same-quotients u v = one-operation (divisionTests u v) (Quotient u v) (λ t w x p q. one-quotient u v w x (let h : v ≤ 63 = t .0 .second in omega arith) p q)
+
+-- and the numbers fix the answer
 pub one-element : (r s : Element) → elementNumbers r ≡ elementNumbers s → r ≡ s
 one-element (Value v) (Value w) e = ap Value (ap (λ (l : List ℕ). getD l 1 0) e)
 one-element (Value v) (Refused s) e = absurd (refusal-positive s (sym (ap (λ (l : List ℕ). getD l 0 0) e)))
 one-element (Refused r) (Value w) e = absurd (refusal-positive r (ap (λ (l : List ℕ). getD l 0 0) e))
 one-element (Refused r) (Refused s) e = ap Refused (one-refusal r s (ap (λ (l : List ℕ). getD l 0 0) e))
 
--- where the operands are elements and the value is determined, so is the answer
-one-operation : (Is : ℕ → Type 0) (u v : ℕ) → (v ≤ 63 → (w x : ℕ) → Is w → Is x → w ≡ x)
-    → (r s : Element) → Operates Is u v (elementNumbers r) → Operates Is u v (elementNumbers s) → r ≡ s
-unfolding Operates
-one-operation Is u v one r s p q =
-    one-element r s
-    (one-reply (operandTests u v) (OneValue Is) 1
-    (λ t f g a b. a .alone ∙ ap (λ (w : ℕ). w ∷ []) (one (t .0 .second) (a .value) (b .value) (a .is) (b .is)) ∙ sym (b .alone))
-    (elementNumbers r) (elementNumbers s) p q)
-
 pub one-sum : (u v : ℕ) (r s : Element) → Sums u v (elementNumbers r) → Sums u v (elementNumbers s) → r ≡ s
-one-sum u v = one-operation (λ w. w ≡ sum u v) u v (λ h w x p q. p ∙ sym q)
+one-sum u v r s p q = one-element r s (same-sums u v (elementNumbers r) (elementNumbers s) p q)
 
 pub one-product : (u v : ℕ) (r s : Element) → Multiplies u v (elementNumbers r) → Multiplies u v (elementNumbers s) → r ≡ s
-one-product u v = one-operation (λ w. w ≡ product u v) u v (λ h w x p q. p ∙ sym q)
+one-product u v r s p q = one-element r s (same-products u v (elementNumbers r) (elementNumbers s) p q)
 
 pub one-division : (u v : ℕ) (r s : Element) → Divides u v (elementNumbers r) → Divides u v (elementNumbers s) → r ≡ s
-one-division u v = one-operation (Quotient u v) u v (λ h w x p q. one-quotient u v w x (omega arith) p q)
+one-division u v r s p q = one-element r s (same-quotients u v (elementNumbers r) (elementNumbers s) p q)
+
+-- ---- a quotient by 0
+
+-- is refused with 13
+pub refused-by-zero : (u : ℕ) → u ≤ 63 → Divides u 0 (elementNumbers (Refused QuotientByZero))
+refused-by-zero u h = by-nothing u 0 true (none-over u 0 h (omega arith)) refl refl
+
+pub by-zero : (u : ℕ) → u ≤ 63 → (r : Element) → Divides u 0 (elementNumbers r) → r ≡ Refused QuotientByZero
+by-zero u h r p = one-division u 0 r (Refused QuotientByZero) p (refused-by-zero u h)
+
+-- after 2: where an operand is over 63, the answer is 2 whatever the divisor
+pub operands-first : (u v : ℕ) → (Operands u v → ⊥) → (r : Element) → Divides u v (elementNumbers r) → r ≡ Refused ValueOver
+operands-first u v n r p = one-division u v r (Refused ValueOver) p (not-elements (Quotient u v) u v false (tells-no n) ((0 < v else QuotientByZero) ∷ []) refl)
+
+pub seventy-by-zero : (r : Element) → Divides 70 0 (elementNumbers r) → r ≡ Refused ValueOver
+seventy-by-zero = operands-first 70 0 (λ o. let h : 70 ≤ 63 = o .first in omega arith)
+
+-- and by nothing but 0: of two elements of which the second is not 0 the quotient is given
+pub by-others : (u v : ℕ) → u ≤ 63 → v ≤ 63 → 0 < v → (r : Element) → Divides u v (elementNumbers r) → (w : ℕ) × (r ≡ Value w) × Quotient u v w
+by-others u v hu hv p r d =
+    let q = a-quotient u v (omega arith) p (omega arith) in
+    (q .0, one-division u v r (Value (q .0)) d (by-something u v true (none-over u v hu hv) refl (q .0) (q .1)), q .1)

@@ -1,8 +1,8 @@
 -- What the field's code does, a turn and a way out at a time, over plain variables.
-use mathlib.Core.Path.{_≡_, refl, sym, ap, _∙_}
+use mathlib.Core.Path.{_≡_, refl, sym, ap, _∙_, subst}
 use mathlib.Core.Logic.{inl, inr}
 use mathlib.Core.Bool.{Bool, true, false}
-use mathlib.Core.List.{[], _∷_}
+use mathlib.Core.List.{List, [], _∷_}
 use Prim.Native.Nat.{ℕ, suc, _+_, _-_, _*_, _/_, _%_, _<_, _≤_}
 use native.Mathlib.Nat.{mod-eq-of-lt}
 use native.Mathlib.Omega.{arith}
@@ -10,13 +10,14 @@ use lib.Bits.{bitXor}
 use lib.Dec.{T, eqb, eqb→eq, ltb, ltb→lt}
 use Rattle.numbers.proofs.Cases.{pos-of-not-zero, bit-cases}
 use Rattle.numbers.proofs.Range.{both, both-left, both-right}
-use Rattle.numbers.proofs.Arms.{NoneBelow, last-of-64}
+use Rattle.numbers.proofs.Arms.{NoneFrom, last-of-63}
 use Rattle.numbers.proofs.Xor.{xor-assoc}
-use Rattle.refusal.specs.Promise.{Tells}
+use Rattle.refusal.specs.declared.Refusal.the-variants.{ValueOver}
+use Rattle.refusal.specs.Promise.{Test, _else_, Tells}
 use Rattle.refusal.proofs.Laws.{tells-yes, tells-no}
-use Rattle.field.specs.Field.{sum, timesX, shifted, product, power, Quotient}
-use Rattle.field.specs.Inside.{inverse, Divided}
-use Rattle.field.specs.Promises.{Operands, Operates}
+use Rattle.field.specs.Field.{sum, timesX, shifted, product, Quotient}
+use Rattle.field.specs.Inside.{inverse}
+use Rattle.field.specs.Promises.{Operands, operandTests, Operates, Divides}
 use Rattle.field.proofs.Laws
 
 -- ---- the product by shift and add
@@ -74,16 +75,14 @@ inverse-entry u k v q t =
     some : k ≡ 0 → ⊥
     some z = let e : product k v ≡ 0 = ap (λ (x : ℕ). product x v) z ∙ Laws.zero-product v in omega (arith, one)
 
-pub inverse-last : (u v : ℕ) → NoneBelow 63 (u % 64) → T (both (eqb (product 63 v) 1) (ltb v 64)) → v ≡ inverse u
-inverse-last u v h = inverse-entry u 63 v (last-of-64 u h)
+-- what the arms from 1 to 62 leave, of what is not 0
+pub inverse-last : (u v : ℕ) → 0 < u % 64 → NoneFrom 1 62 (u % 64) → T (both (eqb (product 63 v) 1) (ltb v 64)) → v ≡ inverse u
+inverse-last u v p h = inverse-entry u 63 v (last-of-63 u p h)
 
--- the 62nd power of 0
-pub inverse-zero : (u : ℕ) → u % 64 ≡ 0 → 0 ≡ inverse u
-unfolding inverse power
-inverse-zero u e = sym (Laws.inverse-low u ∙ ap inverse e ∙ Laws.zero-product (power 0 61))
+-- ---- the division: of each operand the low six bits count
 
-pub divided-over : (u v i w : ℕ) → i ≡ inverse v → w ≡ product u i → Divided u v w
-divided-over u v i w e f = rw (f, e) (Laws.divided-by u v)
+pub quotient-over : (u v i w : ℕ) → 0 < v % 64 → i ≡ inverse v → w ≡ product u i → Quotient (u % 64) (v % 64) w
+quotient-over u v i w p e f = subst (Quotient (u % 64) (v % 64)) (sym (f ∙ ap (product u) (e ∙ Laws.inverse-low v) ∙ sym (Laws.product-low u (inverse (v % 64))))) (Laws.quotient-by (u % 64) (v % 64) (omega arith) p (omega arith))
 
 -- ---- the test of the operands, and the ways out of an entry point
 
@@ -97,23 +96,34 @@ pub none-over : (u v : ℕ) → u ≤ 63 → v ≤ 63 → Tells (Operands u v) t
 none-over u v hu hv = tells-yes (record { first = hu; second = hv })
 
 module _ (Is : ℕ → Type 0) (u v : ℕ) (b : Bool) (t : Tells (Operands u v) b) where
-  pub not-elements : b ≡ false → Operates Is u v (2 ∷ 0 ∷ [])
+  pub not-elements : (ts : List Test) → b ≡ false → Operates ((Operands u v else ValueOver) ∷ ts) Is (2 ∷ 0 ∷ [])
   unfolding Operates
-  not-elements e = (inr (t .fails e, refl), (refl, refl))
+  not-elements ts e = (inr (t .fails e, refl), (refl, refl))
 
-  pub both-elements : b ≡ true → (w : ℕ) → Is w → Operates Is u v (0 ∷ w ∷ [])
+  pub both-elements : b ≡ true → (w : ℕ) → Is w → Operates (operandTests u v) Is (0 ∷ w ∷ [])
   unfolding Operates
   both-elements e w i = (inl (t .holds e, refl), record { value = w; alone = refl; is = i })
 
-pub zero-quotient : (u v : ℕ) → v ≡ 0 → Quotient u v 0
-zero-quotient u v e = record { element = omega arith; exact = λ d. absurd (d e); by-zero = λ z. refl }
+-- ---- the ways out of a division, both operands being elements
 
-pub divided-quotient : (u v w : ℕ) → Operands u v → (v ≡ 0 → ⊥) → Divided u v w → Quotient u v w
-divided-quotient u v w o d q =
-    let e : u % 64 ≡ u = mod-eq-of-lt (omega arith) in
-    let f : v % 64 ≡ v = mod-eq-of-lt (omega arith) in
-    record { element = q .element; exact = λ _. q .exact (λ z. d (sym f ∙ z)) ∙ e; by-zero = λ z. absurd (d z) }
+module _ (u v : ℕ) (b : Bool) (t : Tells (Operands u v) b) (e : b ≡ true) where
+  low-first : u % 64 ≡ u
+  low-first = let h : u ≤ 63 = t .holds e .first in mod-eq-of-lt (omega arith)
 
--- as the code has it: the test has passed, and v is not 0
-pub nonzero-quotient : (u v w : ℕ) (b : Bool) → Tells (Operands u v) b → b ≡ true → (v ≡ 0 → ⊥) → Divided u v w → Quotient u v w
-nonzero-quotient u v w b t e d q = divided-quotient u v w (t .holds e) d q
+  low-second : v % 64 ≡ v
+  low-second = let h : v ≤ 63 = t .holds e .second in mod-eq-of-lt (omega arith)
+
+  pub by-nothing : v ≡ 0 → Divides u v (13 ∷ 0 ∷ [])
+  unfolding Operates
+  by-nothing z = (inl (t .holds e, inr ((λ p. omega arith), refl)), (refl, refl))
+
+  pub not-nothing : (v ≡ 0 → ⊥) → 0 < v % 64
+  not-nothing = let h : v ≤ 63 = t .holds e .second in Laws.may-divide v (omega arith)
+
+  pub by-something : (w : ℕ) → Quotient u v w → Divides u v (0 ∷ w ∷ [])
+  unfolding Operates
+  by-something w q = (inl (t .holds e, inl (q .divisor, refl)), record { value = w; alone = refl; is = q })
+
+  -- as the inner division gives it
+  pub by-low-bits : (w : ℕ) → Quotient (u % 64) (v % 64) w → Divides u v (0 ∷ w ∷ [])
+  by-low-bits w q = by-something w (subst (λ (x : ℕ). Quotient x v w) low-first (subst (λ (y : ℕ). Quotient (u % 64) y w) low-second q))

@@ -32,11 +32,11 @@ pub record Log (v n : ℕ) : Type 0 where
   pub below : n < 63
   pub is : power α n ≡ v
 
--- w is the quotient u/v: the w with v·w = u where v is not 0; a quotient by 0 is 0
+-- w is the quotient u/v, for a v that is not 0: the w with v·w = u
 pub record Quotient (u v w : ℕ) : Type 0 where
+  pub divisor : 0 < v
   pub element : w < 64
-  pub exact : (v ≡ 0 → ⊥) → product v w ≡ u
-  pub by-zero : v ≡ 0 → w ≡ 0
+  pub exact : product v w ≡ u
 
 -- f 0 + f 1 + .. + f (n - 1)
 unfoldable pub total : ℕ → (ℕ → ℕ) → ℕ

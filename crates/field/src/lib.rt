@@ -1,9 +1,10 @@
 // The field of 64 elements: the entry points sum, product and quotient, and the inner operations that the crates above use.
 ghost use mathlib.Core.Path.{_≡_};
+ghost use Prim.Native.Nat.{_%_, _<_};
 ghost use Rattle.refusal.specs.Promise.{Tells};
-ghost use Rattle.field.specs.Field.{sum, timesX, product};
+ghost use Rattle.field.specs.Field.{sum, timesX, product, Quotient};
 ghost use Rattle.field.specs.Promises.{elementNumbers, Operands, Sums, Multiplies, Divides};
-ghost use Rattle.field.specs.Inside.{inverse, Divided};
+ghost use Rattle.field.specs.Inside.{inverse};
 use refusal::Refusal;
 
 pub enum Element {
@@ -44,7 +45,7 @@ pub fn product(u: u8, v: u8) -> Element
     Element::Value(times(u, v))
 }
 
-// The quotient of two operands.
+// The quotient of two operands, of which the second is not 0.
 pub fn quotient(u: u8, v: u8) -> Element
     ensures { λ r. ⌜ Divides u v (elementNumbers r) ⌝ }
 {
@@ -52,7 +53,7 @@ pub fn quotient(u: u8, v: u8) -> Element
         return Element::Refused(Refusal::ValueOver);
     }
     if v == 0 {
-        return Element::Value(0);
+        return Element::Refused(Refusal::QuotientByZero);
     }
     Element::Value(over(u, v))
 }
@@ -88,12 +89,12 @@ pub fn times(u: u8, v: u8) -> u8
     s
 }
 
-// The inverse of what is not 0, and 0 of 0, by a table: of any byte the low six bits count.
+// The inverse of what is not 0, by a table that has no entry for 0: of any byte the low six bits count.
 pub fn inverse(u: u8) -> u8
+    requires { ⌜ 0 < u % 64 ⌝ }
     ensures { λ r. ⌜ r ≡ inverse u ⌝ }
 {
     match u % 64 {
-        0 => 0,
         1 => 1,
         2 => 33,
         3 => 62,
@@ -160,9 +161,10 @@ pub fn inverse(u: u8) -> u8
     }
 }
 
-// Any byte divided by any other.
+// The quotient of any byte by one that is not 0: of each the low six bits count.
 pub fn over(u: u8, v: u8) -> u8
-    ensures { λ r. ⌜ Divided u v r ⌝ }
+    requires { ⌜ 0 < v % 64 ⌝ }
+    ensures { λ r. ⌜ Quotient (u % 64) (v % 64) r ⌝ }
 {
     times(u, inverse(v))
 }

@@ -6,9 +6,8 @@ use native.Mathlib.Omega.{arith}
 use lib.ListN.{length, getD, drop}
 use Rattle.refusal.proofs.Theorems.{one-result, one-reply}
 use Rattle.code.specs.Word.{number, distance}
-use Rattle.field.specs.Field.{sum, product, Quotient}
 use Rattle.field.specs.Promises as Field
-use Rattle.field.proofs.Theorems.{one-quotient}
+use Rattle.field.proofs.Theorems.{same-sums, same-products, same-quotients}
 use Rattle.encoder.specs.declared.Register.{Register}
 use Rattle.encoder.specs.Promises as Encoder
 use Rattle.encoder.proofs.Theorems as encoder
@@ -37,23 +36,14 @@ use Rattle.film.specs.Numbers.{elementNumbers, lineNumbers, listNumbers,
 one-element : (r s : FilmElement) → elementNumbers r ≡ elementNumbers s → r ≡ s
 one-element r s e = ap (λ (l : List ℕ). record { answer = getD l 0 0; value = getD l 1 0 }) e
 
-one-operation : (Is : ℕ → Type 0) (u v : ℕ) → (v ≤ 63 → (w x : ℕ) → Is w → Is x → w ≡ x)
-    → (r s : FilmElement) → Field.Operates Is u v (elementNumbers r) → Field.Operates Is u v (elementNumbers s) → r ≡ s
-unfolding Field.Operates
-one-operation Is u v one r s p q =
-    one-element r s
-    (one-reply (Field.operandTests u v) (Field.OneValue Is) 1
-    (λ t f g a b. a .alone ∙ ap (λ (w : ℕ). w ∷ []) (one (t .0 .second) (a .value) (b .value) (a .is) (b .is)) ∙ sym (b .alone))
-    (elementNumbers r) (elementNumbers s) p q)
-
 pub one-sum : (u v : ℕ) (r s : FilmElement) → Field.Sums u v (elementNumbers r) → Field.Sums u v (elementNumbers s) → r ≡ s
-one-sum u v = one-operation (λ w. w ≡ sum u v) u v (λ h w x p q. p ∙ sym q)
+one-sum u v r s p q = one-element r s (same-sums u v (elementNumbers r) (elementNumbers s) p q)
 
 pub one-product : (u v : ℕ) (r s : FilmElement) → Field.Multiplies u v (elementNumbers r) → Field.Multiplies u v (elementNumbers s) → r ≡ s
-one-product u v = one-operation (λ w. w ≡ product u v) u v (λ h w x p q. p ∙ sym q)
+one-product u v r s p q = one-element r s (same-products u v (elementNumbers r) (elementNumbers s) p q)
 
 pub one-division : (u v : ℕ) (r s : FilmElement) → Field.Divides u v (elementNumbers r) → Field.Divides u v (elementNumbers s) → r ≡ s
-one-division u v = one-operation (Quotient u v) u v (λ h w x p q. one-quotient u v w x (omega arith) p q)
+one-division u v r s p q = one-element r s (same-quotients u v (elementNumbers r) (elementNumbers s) p q)
 
 -- ---- the encoder
 

@@ -15,7 +15,7 @@ use Rattle.field.proofs.Totals.{total-same, total-none, total-sum, total-scaled
 use Rattle.polynomial.specs.Polynomial.{polyAt, over}
 use Rattle.polynomial.proofs.Division.{over-get, poly-past}
 use Rattle.mender.specs.Inside.{mixed, coef, valueOf}
-use Rattle.mender.specs.Values.{evaluated, Kills}
+use Rattle.mender.specs.Values.{evaluated, inverseOrNone, Kills}
 use Rattle.mender.proofs.Windows.{mixed-lt}
 
 -- a coefficient is the value of its tail, and x times that of the next
@@ -184,21 +184,15 @@ module _ (p s : List ℕ) (x : ℕ) (wide : length p ≡ 6) where
       last : 0 ≡ sum 0 (product x (slope 6))
       last = sym (ap (λ (t : ℕ). sum 0 (product x t)) (slope-none 6 (omega arith)) ∙ ap (sum 0) (Laws.product-zero x) ∙ Laws.sum-self 0)
 
-inverse-none : inverse 0 ≡ 0
-unfolding inverse power
-inverse-none = Laws.zero-product (power 0 61)
-
 -- where x is a root of the locator p, the value is the quotient
 pub value-is-quotient : (p s : List ℕ) (x n : ℕ) → length p ≡ 6 → polyAt p x ≡ 0 → Kills p s n
-    → product (power x (5 - n)) (product (mixed (coef (over p x)) s n) (inverse (polyAt (over p x) x))) ≡ valueOf p s x
-unfolding valueOf
+    → product (power x (5 - n)) (product (mixed (coef (over p x)) s n) (inverseOrNone (polyAt (over p x) x))) ≡ valueOf p s x
+unfolding valueOf inverseOrNone
 value-is-quotient p s x n wide root k =
-    sym (Laws.product-assoc (power x (5 - n)) (mixed (coef (over p x)) s n) (inverse (polyAt (over p x) x)))
-    ∙ ap (λ (t : ℕ). product t (inverse (polyAt (over p x) x))) (sym (fifth-part p s x wide root n k))
+    sym (Laws.product-assoc (power x (5 - n)) (mixed (coef (over p x)) s n) (inverseOrNone (polyAt (over p x) x)))
+    ∙ ap (λ (t : ℕ). product t (inverseOrNone (polyAt (over p x) x))) (sym (fifth-part p s x wide root n k))
     ∙ ⊎-elim
     (λ (z : polyAt (over p x) x ≡ 0).
-    ap (λ (t : ℕ). product (product (mixed (coef (over p x)) s 0) (power x 5)) (inverse t)) z
-    ∙ ap (product (product (mixed (coef (over p x)) s 0) (power x 5))) inverse-none ∙ Laws.product-zero (product (mixed (coef (over p x)) s 0) (power x 5))
-    ∙ simp (eq-eqb (polyAt p x) 0 root, eq-eqb (polyAt (over p x) x) 0 z))
+    simp (eq-eqb (polyAt p x) 0 root, eq-eqb (polyAt (over p x) x) 0 z) (Laws.product-zero (product (mixed (coef (over p x)) s 0) (power x 5))))
     (λ (d : polyAt (over p x) x ≡ 0 → ⊥). simp (eq-eqb (polyAt p x) 0 root, ne-eqb (polyAt (over p x) x) 0 d))
     (same-or-not (polyAt (over p x) x) 0)

@@ -9,8 +9,7 @@ use native.Mathlib.Omega.{arith}
 use lib.ListN.{length, getD, replicate, set, length-set}
 use lib.Seq.{getD-set-same, getD-set-other}
 use Rattle.numbers.proofs.Cases.{pos-of-not-zero, same-or-not}
-use Rattle.field.specs.Field.{sum, product, α, power}
-use Rattle.field.specs.Inside.{Divided}
+use Rattle.field.specs.Field.{sum, product, α, power, Quotient}
 use Rattle.field.proofs.Laws
 use Rattle.field.proofs.Totals.{total-none}
 use Rattle.lanes.specs.Lanes.{pack, lane}
@@ -142,7 +141,11 @@ after-first h =
     (sym (eleven-last h))
     ∙ sym (pack-last 9 (λ k. getD (eleven h) (suc k) 0))
 
-pub one-error : (h : Eleven) (y z x p l : ℕ) → y ≡ h .first / 1073741824 % 64 → (y ≡ 0 → ⊥) → Divided z y x
+-- S_0 that is not 0 may be divided by
+pub sum-divides : (a y : ℕ) → y ≡ a % 64 → (y ≡ 0 → ⊥) → 0 < y % 64
+sum-divides a y e = Laws.may-divide y (omega arith)
+
+pub one-error : (h : Eleven) (y z x p l : ℕ) → y ≡ h .first / 1073741824 % 64 → (y ≡ 0 → ⊥) → Quotient (z % 64) (y % 64) x
     → p ≡ pack 10 (λ k. product (lane (h .first) k) x) → p ≡ h .first / 64 % 18014398509481984 + h .last % 64 * 18014398509481984
     → LogOf x l → OneError (eleven h) (record { found = true; address = 62 - l; value = y })
 unfolding lane

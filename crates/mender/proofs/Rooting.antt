@@ -26,7 +26,7 @@ use Rattle.mender.specs.declared.Pattern.{Pattern}
 use Rattle.mender.specs.Inside.{valueOf}
 use Rattle.mender.specs.Found.{RootFrom, Patterned}
 use Rattle.mender.specs.Rows.{Coefficients}
-use Rattle.mender.specs.Values.{rootAfter, rootAt, numeratorAt, denominatorAt, numeratorOf, denominatorOf, quotientAt, FractionIn, QuotientsAhead, QuotientNext, Placed, Kills}
+use Rattle.mender.specs.Values.{rootAfter, rootAt, numeratorAt, denominatorAt, numeratorOf, denominatorOf, quotientAt, FractionIn, QuotientsAhead, QuotientNext, Placed, Kills, inverseOrNone}
 use Rattle.mender.specs.declared.Ahead.{Ahead}
 use Rattle.mender.proofs.OneError.{zero-get, weight-set, weight-nothing, nonzero-pos}
 use Rattle.mender.proofs.Locating.{coefficients-small}
@@ -259,7 +259,7 @@ module _ (row : ℕ) (p s : List ℕ) (n f : ℕ) (c : Coefficients row p) (k : 
   unfolding quotientAt numeratorAt denominatorAt numeratorOf denominatorOf
   root-value x root =
       ap (product (power x (5 - n)))
-      (ap₂ (λ (u v : ℕ). product u (inverse v))
+      (ap₂ (λ (u v : ℕ). product u (inverseOrNone v))
       (window-is p s x (c .wide) n (lane f)
       (λ m l.
       b .above m l

@@ -10,7 +10,7 @@ use lib.Dec.{eqb, eqb→eq}
 use lib.Bits.{bitXor}
 use lib.ListN.{getD, length, set, length-set, replicate}
 use lib.Seq.{getD-set-same, getD-set-other}
-use Rattle.numbers.proofs.Cases.{pos-of-not-zero}
+use Rattle.numbers.proofs.Cases.{pos-of-not-zero, not-zero-of-pos}
 use Rattle.numbers.proofs.Range.{each-at}
 use Rattle.numbers.proofs.Xor.{xor-assoc}
 use Rattle.field.specs.Field.{sum, timesX, shifted, product}
@@ -241,6 +241,10 @@ module _ (y b : ℕ) (low high : List ℕ) (l : Multiples (y % 11529215046068469
 
 pub scaled-fits : (a f b : ℕ) → b ≡ pack 10 (λ k. product (lane a k) f) → b < 1152921504606846976
 scaled-fits a f b e = subst (λ (n : ℕ). n < 1152921504606846976) (sym e) (pack-lt 10 (λ k. product (lane a k) f) (λ k. Laws.product-lt (lane a k) f))
+
+-- a pivot, which is not 0, may be divided by
+pub pivot-divides : (y j d : ℕ) → 0 < lane y j → d ≡ lane y j → 0 < d % 64
+pivot-divides y j d p e = Laws.may-divide d (rw e (lane-lt y j)) (not-zero-of-pos (rw e p))
 
 pub inverse-lane : (x j d v : ℕ) → d ≡ lane x j → v ≡ inverse d → v ≡ inverse (lane x j)
 inverse-lane x j d v e f = f ∙ ap inverse e

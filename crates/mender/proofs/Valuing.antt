@@ -20,7 +20,7 @@ use Rattle.lanes.proofs.Laws.{lane-lt, lane-zero, lane-suc, lane-after, lane-xo
 use Rattle.mender.specs.declared.Ahead.{Ahead}
 use Rattle.mender.specs.Found.{RootFrom}
 use Rattle.mender.proofs.RowTurns.{pow-lane}
-use Rattle.mender.specs.Values.{firstSet, rootAfter, rootAt, PlacesFrom, evaluated, numeratorAt, denominatorAt, quotientAt, numeratorOf, denominatorOf, NumeratorIn, DenominatorIn, FractionIn, Spread, BothAt, InversesIn, Raised, QuotientsIn, QuotientsAhead, QuotientNext}
+use Rattle.mender.specs.Values.{firstSet, rootAfter, rootAt, PlacesFrom, evaluated, numeratorAt, denominatorAt, quotientAt, numeratorOf, denominatorOf, NumeratorIn, DenominatorIn, FractionIn, Spread, BothAt, InversesIn, inverseOrNone, Raised, QuotientsIn, QuotientsAhead, QuotientNext}
 
 -- ---- lanes
 
@@ -158,21 +158,33 @@ pub record InversesTo (d r q i : ℕ) : Type 0 where
   pub most : i ≤ 5
   pub below : r < 64 ^ 5
   pub after : (k : ℕ) → lane q k ≡ lane d (i + k)
-  pub done : (j : ℕ) → j < i → lane r (5 - i + j) ≡ inverse (lane d j)
+  pub done : (j : ℕ) → j < i → lane r (5 - i + j) ≡ inverseOrNone (lane d j)
 
 pub inverses-none : (d : ℕ) → InversesTo d 0 d 0
 inverses-none d = record { most = omega arith; below = omega arith; after = λ k. ap (lane d) (sym (zero-add k)); done = λ j b. absurd (omega arith) }
 
-inverse-below : (c u : ℕ) → c ≡ inverse u → c < 64
-inverse-below c u e = subst (λ (n : ℕ). n < 64) (sym e) (Laws.inverse-lt u)
+-- 0 has none
+pub none-of-nothing : (v : ℕ) → v ≡ 0 → 0 ≡ inverseOrNone v
+unfolding inverseOrNone
+none-of-nothing v e = simp (eq-eqb v 0 e)
 
-pub inverse-fits : (c u : ℕ) → c ≡ inverse u → c * 16777216 < 18446744073709551616
+pub some-inverse : (v r : ℕ) → (v ≡ 0 → ⊥) → r ≡ inverse v → r ≡ inverseOrNone v
+unfolding inverseOrNone
+some-inverse v r d e = simp (ne-eqb v 0 d) e
+
+inverse-below : (c u : ℕ) → c ≡ inverseOrNone u → c < 64
+unfolding inverseOrNone
+inverse-below c u e =
+    subst (λ (n : ℕ). n < 64) (sym e)
+    (⊎-elim (λ (z : u ≡ 0). simp (eq-eqb u 0 z) (omega arith)) (λ (d : u ≡ 0 → ⊥). simp (ne-eqb u 0 d) (Laws.inverse-lt u)) (same-or-not u 0))
+
+pub inverse-fits : (c u : ℕ) → c ≡ inverseOrNone u → c * 16777216 < 18446744073709551616
 inverse-fits c u e = omega (arith, inverse-below c u e)
 
-pub inverses-fit : (d r q i c : ℕ) → InversesTo d r q i → c ≡ inverse (q % 64) → r / 64 + c * 16777216 < 18446744073709551616
+pub inverses-fit : (d r q i c : ℕ) → InversesTo d r q i → c ≡ inverseOrNone (q % 64) → r / 64 + c * 16777216 < 18446744073709551616
 inverses-fit d r q i c a e = let b = a .below in omega (arith, inverse-below c (q % 64) e)
 
-pub inverses-again : (d r q i c : ℕ) → i < 5 → InversesTo d r q i → c ≡ inverse (q % 64) → InversesTo d (r / 64 + c * 16777216) (q / 64) (i + 1)
+pub inverses-again : (d r q i c : ℕ) → i < 5 → InversesTo d r q i → c ≡ inverseOrNone (q % 64) → InversesTo d (r / 64 + c * 16777216) (q / 64) (i + 1)
 inverses-again d r q i c h a e =
     let small : c < 64 = inverse-below c (q % 64) e in
     record {
@@ -180,8 +192,8 @@ inverses-again d r q i c h a e =
       below = pushed-below r c (a .below) small;
       after = λ k. sym (lane-suc q k) ∙ a .after (suc k) ∙ ap (lane d) (omega arith);
       done =
-          pushed-more r c (a .below) small i (λ j. inverse (lane d j)) h (a .done)
-          (e ∙ ap inverse (sym (lane-zero q) ∙ a .after 0 ∙ ap (lane d) (omega arith)));
+          pushed-more r c (a .below) small i (λ j. inverseOrNone (lane d j)) h (a .done)
+          (e ∙ ap inverseOrNone (sym (lane-zero q) ∙ a .after 0 ∙ ap (lane d) (omega arith)));
     }
 
 pub inverses-all : (d r q i : ℕ) → 5 ≤ i → InversesTo d r q i → InversesIn d r
@@ -319,7 +331,7 @@ quotients-are f n x both d t r b i e a =
       at = λ j l.
           a .at j l
           ∙ ap (product (power (lane x j) (5 - n)))
-          (products-lane both d t j e (omega arith) ∙ ap₂ product (b .above j l) (i .at j l ∙ ap inverse (lane-after both 5 j ∙ b .under j l)));
+          (products-lane both d t j e (omega arith) ∙ ap₂ product (b .above j l) (i .at j l ∙ ap inverseOrNone (lane-after both 5 j ∙ b .under j l)));
     }
 
 -- ---- numerator, denominator and fraction

@@ -48,9 +48,13 @@ numeratorAt f x = evaluated 5 0 (lane f) x
 unfoldable pub denominatorAt : ℕ → ℕ → ℕ
 denominatorAt f x = evaluated 5 0 (λ m. lane f (5 + m)) x
 
+-- the inverse of what is not 0, and 0 for 0
+unfoldable pub inverseOrNone : ℕ → ℕ
+inverseOrNone v = cond (eqb v 0) 0 (inverse v)
+
 -- their quotient, 0 where the denominator is 0, times what the fifth power of x has more than n factors
 unfoldable pub quotientAt : ℕ → ℕ → ℕ → ℕ
-quotientAt f n x = product (power x (5 - n)) (product (numeratorAt f x) (inverse (denominatorAt f x)))
+quotientAt f n x = product (power x (5 - n)) (product (numeratorAt f x) (inverseOrNone (denominatorAt f x)))
 
 -- coefficient m of the numerator, for the locator in the lanes of q and the sums from n on
 unfoldable pub numeratorOf : ℕ → List ℕ → ℕ → ℕ → ℕ
@@ -83,7 +87,7 @@ pub record BothAt (f x r : ℕ) : Type 0 where
   pub under : (j : ℕ) → j < 5 → lane r (5 + j) ≡ denominatorAt f (lane x j)
 
 pub record InversesIn (d r : ℕ) : Type 0 where
-  pub at : (j : ℕ) → j < 5 → lane r j ≡ inverse (lane d j)
+  pub at : (j : ℕ) → j < 5 → lane r j ≡ inverseOrNone (lane d j)
 
 -- each lane times a power of the lane of x
 pub record Raised (v x n r : ℕ) : Type 0 where

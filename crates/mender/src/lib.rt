@@ -11,7 +11,7 @@ ghost use Rattle.code.specs.Held.{eleven};
 ghost use Rattle.mender.specs.Found.{lone, OneError, RootFrom, Patterned, ElementsTo, Clear, Repairs, sixth};
 ghost use Rattle.mender.specs.Rows.{UnitRows, PivotRow, Multiples, RowsCleared, RowsFrom, FirstRow, Coefficients};
 ghost use Rattle.mender.specs.Inside.{Agree, Nothing};
-ghost use Rattle.mender.specs.Values.{Placed, PlacesFrom, QuotientsIn, QuotientsAhead, QuotientNext, BothAt, Spread, InversesIn, Raised, NumeratorIn, DenominatorIn, FractionIn, Kills};
+ghost use Rattle.mender.specs.Values.{Placed, PlacesFrom, QuotientsIn, QuotientsAhead, QuotientNext, BothAt, Spread, inverseOrNone, InversesIn, Raised, NumeratorIn, DenominatorIn, FractionIn, Kills};
 use code::Eleven;
 use lanes::FIVE_LANES;
 use lanes::FOUR_LANES;
@@ -349,7 +349,7 @@ fn spread(f: u64, m: usize) -> u64
     (q % 64 + q / FIVE_LANES % 64 * FIVE_LANES) * FIVE_ONES
 }
 
-// The inverses of five lanes.
+// The inverses of five lanes, and 0 for a lane that is 0.
 fn inverses(d: u64) -> u64
     ensures { λ r. ⌜ InversesIn d r ⌝ }
 {
@@ -357,11 +357,23 @@ fn inverses(d: u64) -> u64
     let mut q = d;
     let mut i: usize = 0;
     while i < 5 {
-        r = r / 64 + field::inverse((q % 64) as u8) as u64 * FOUR_LANES;
+        r = r / 64 + inverse_or_none((q % 64) as u8) as u64 * FOUR_LANES;
         q = q / 64;
         i += 1;
     }
     r
+}
+
+// The inverse of an element that is not 0. Where a denominator is 0, at a root that is a root twice or in a lane that stands for no root, nothing is
+// divided, and there is no value.
+fn inverse_or_none(v: u8) -> u8
+    requires { ⌜ v < 64 ⌝ }
+    ensures { λ r. ⌜ r ≡ inverseOrNone v ⌝ }
+{
+    if v == 0 {
+        return 0;
+    }
+    field::inverse(v)
 }
 
 // Five lanes, each times its place to the power 5 - n.

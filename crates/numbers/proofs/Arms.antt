@@ -1,19 +1,27 @@
--- A `match` on a number, an arm for each number from 0 and `_` for the last: what the last arm is told.
+-- A `match` on a number, an arm for each number from some number on and `_` for the last: what the last arm is told.
 use mathlib.Core.Path.{_≡_, sym}
 use mathlib.Core.Logic.{⊎-elim}
-use Prim.Native.Nat.{ℕ, zero, suc, _%_, _≤_}
+use Prim.Native.Nat.{ℕ, zero, suc, _+_, _%_, _<_, _≤_}
 use native.Mathlib.Nat.{eq-or-lt-of-le}
 use native.Mathlib.Omega.{arith}
 
+-- x is none of the n numbers from k on
+abbrev pub NoneFrom : ℕ → ℕ → ℕ → Type 0
+NoneFrom k zero x = Unit
+NoneFrom k (suc n) x = NoneFrom k n x × (x ≡ n + k → ⊥)
+
 -- x is none of 0 to n - 1
 abbrev pub NoneBelow : ℕ → ℕ → Type 0
-NoneBelow zero x = Unit
-NoneBelow (suc n) x = NoneBelow n x × (x ≡ n → ⊥)
+NoneBelow = NoneFrom 0
 
-none-below : (n x : ℕ) → NoneBelow n x → n ≤ x
-none-below zero x h = omega arith
-none-below (suc n) x h = ⊎-elim (λ e. absurd (h .1 (sym e))) (λ l. l) (eq-or-lt-of-le (none-below n x (h .0)))
+none-from : (k n x : ℕ) → k ≤ x → NoneFrom k n x → n + k ≤ x
+none-from k zero x b h = omega arith
+none-from k (suc n) x b h = let l : n + k ≤ x = none-from k n x b (h .0) in ⊎-elim (λ e. absurd (h .1 (sym e))) (λ (g : n + k < x). omega arith) (eq-or-lt-of-le l)
 
 -- of the low six bits none but 63 is left
 pub last-of-64 : (u : ℕ) → NoneBelow 63 (u % 64) → u % 64 ≡ 63
-last-of-64 u h = let l : 63 ≤ u % 64 = none-below 63 (u % 64) h in omega arith
+last-of-64 u h = let l : 63 ≤ u % 64 = none-from 0 63 (u % 64) (omega arith) h in omega arith
+
+-- the same where they are not 0, and the arms begin at 1
+pub last-of-63 : (u : ℕ) → 0 < u % 64 → NoneFrom 1 62 (u % 64) → u % 64 ≡ 63
+last-of-63 u p h = let l : 63 ≤ u % 64 = none-from 1 62 (u % 64) p h in omega arith

@@ -1,7 +1,7 @@
 -- The number of each refusal, as the table of numbered answers gives it; 0 is a success. tools/tables writes the cases from refusals.txt.
 use Prim.Native.Nat.{ℕ}
 use Rattle.refusal.specs.declared.Refusal.{Refusal}
-use Rattle.refusal.specs.declared.Refusal.the-variants.{InputLength, ValueOver, RadiusOver, NumberOver, OutputLength, NoLine, OtherNumber, RowCount, NoBlock, ManyStarts, RegisterFull, RegisterShort}
+use Rattle.refusal.specs.declared.Refusal.the-variants.{InputLength, ValueOver, RadiusOver, NumberOver, OutputLength, NoLine, OtherNumber, RowCount, NoBlock, ManyStarts, RegisterFull, RegisterShort, QuotientByZero}
 
 abbrev pub numberOf : Refusal → ℕ
 -- a line or ring is not 63 long, or text to be encoded is not 50 long
@@ -28,3 +28,5 @@ numberOf ManyStarts = 10
 numberOf RegisterFull = 11
 -- register holds fewer than 52
 numberOf RegisterShort = 12
+-- quotient by zero
+numberOf QuotientByZero = 13

@@ -16,6 +16,7 @@ pub enum Refusal {
     ManyStarts,
     RegisterFull,
     RegisterShort,
+    QuotientByZero,
 }
 
 // The number of a refusal.
@@ -35,5 +36,6 @@ pub fn number(r: Refusal) -> u8
         Refusal::ManyStarts => 10,
         Refusal::RegisterFull => 11,
         Refusal::RegisterShort => 12,
+        Refusal::QuotientByZero => 13,
     }
 }

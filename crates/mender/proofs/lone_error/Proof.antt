@@ -1,12 +1,15 @@
 -- `mender::lone_error` meets its contract: each sum is the one before it times the place, or nothing is said.
 use borrow.Author.Needs.{needs}
 use mathlib.Core.Path.{refl}
-use Rattle.mender.proofs.OneError.{one-error, no-error}
+use Rattle.mender.proofs.OneError.{sum-divides, one-error, no-error}
 use Rattle.mender.proofs.lone_error.Statement.{statement}
 use Rattle.mender.proofs.lone_error.Tie as tie
 
 returns : tie.Need-returns
 returns c = search (no-error, needs)
+
+over-requires : tie.Need-over-requires
+over-requires c κs = search (sum-divides, needs)
 
 returns-2 : tie.Need-returns-2
 returns-2 c = search (no-error, needs)
@@ -24,7 +27,7 @@ lone-error-spec =
     (λ c κs. search needs)
     returns
     (λ c. search needs)
-    (λ c κs. search needs)
+    over-requires
     (λ c. search needs)
     (λ c. search needs)
     (λ c. search needs)

@@ -5,7 +5,7 @@ use mathlib.Core.Path.{_≡_}
 use lib.ListN.{getD}
 use Rattle.field.specs.Inside.{inverse}
 use Rattle.lanes.specs.Lanes.{lane}
-use Rattle.mender.proofs.RowTurns.{Tables, tables-are, scaled-fits, inverse-lane, part-fits, RowsClearedTo, rows-cleared-none, rows-cleared-again, rows-cleared-all}
+use Rattle.mender.proofs.RowTurns.{Tables, tables-are, scaled-fits, inverse-lane, pivot-divides, part-fits, RowsClearedTo, rows-cleared-none, rows-cleared-again, rows-cleared-all}
 use Rattle.mender.proofs.row_cleared.Statement.{statement}
 use Rattle.mender.proofs.row_cleared.Tie as tie
 
@@ -14,6 +14,9 @@ Inv-loop j p x₀ y inverse₁ a low high i₀ x i = (p < i) × (i ≤ 6) × (in
 
 abbrev μ-loop : tie.MeasureT-loop
 μ-loop j p x₀ y inverse a low high i₀ x i = 6 - i
+
+inverse-requires : tie.Need-inverse-requires Inv-loop μ-loop
+inverse-requires c κs = pivot-divides _ _ _ (c .before .pre .2) (c .lane-of .ensures)
 
 multiples-requires-2 : tie.Need-multiples-requires-2 Inv-loop μ-loop
 multiples-requires-2 c κs = scaled-fits _ _ _ (c .scale .ensures)
@@ -41,7 +44,7 @@ row-cleared-spec =
     (λ c. search needs)
     (λ c. search needs)
     (λ c κs. search needs)
-    (λ c κs. search needs)
+    inverse-requires
     (λ c κs. search needs)
     (λ c κs. search needs)
     multiples-requires-2

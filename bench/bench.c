@@ -47,6 +47,16 @@ static void ours_block(const uint8_t *input, uint8_t radius, reply *r) {
     r->answer = block.answer, r->distance = block.distance, r->number = 0, r->length = block.answer == 0 ? 9 : 0;
 }
 
+static void ours_quotients(const uint8_t *input, uint8_t radius, reply *r) {
+    (void)radius;
+    r->answer = 0, r->distance = 0, r->number = 0, r->length = 62;
+    for (int i = 0; i < 62; i++) {
+        film_element quotient = film_quotient(input[i], input[i + 1]);
+        r->distance += quotient.answer == FILM_QUOTIENT_BY_ZERO;
+        r->out[i] = quotient.value;
+    }
+}
+
 /* ---- libfec: six bits, x^6 + x + 1, roots from α^58 on, one apart, eleven of them, nothing padded. */
 
 static void *fec;
@@ -118,13 +128,31 @@ static void plain_block(const uint8_t *input, uint8_t radius, reply *r) {
     }
 }
 
+/* Nor has libfec quotients. The peer is plain C by tables of logarithms; unlike the library it does not test that an operand is an element. */
+static uint8_t powers[126], logs[64];
+
+static void make_logs(void) {
+    for (unsigned i = 0, x = 1; i < 126; i++, x = x < 32 ? 2 * x : (2 * x) ^ 0x43)
+        powers[i] = (uint8_t)x, logs[x] = (uint8_t)(i % 63);
+}
+
+static void plain_quotients(const uint8_t *input, uint8_t radius, reply *r) {
+    (void)radius;
+    r->answer = 0, r->distance = 0, r->number = 0, r->length = 62;
+    for (int i = 0; i < 62; i++) {
+        uint8_t u = input[i], v = input[i + 1];
+        r->distance += v == 0;
+        r->out[i] = u == 0 || v == 0 ? 0 : powers[logs[u] + 63 - logs[v]];
+    }
+}
+
 /* ---- The rows, and their words. */
 
 enum { LINES = 128, RINGS = 4, OURS = 0, FEC = 1, SECOND = 2, PEERS = 3, SELDOM = 20 };
 
 static const char *const peer_names[PEERS] = {"film", "libfec", "second"};
 
-typedef enum { ENCODE, READ, RING, NOISE, BLOCK } kind;
+typedef enum { ENCODE, READ, RING, NOISE, BLOCK, FIELD } kind;
 
 typedef struct {
     const char *name;
@@ -153,6 +181,7 @@ static row rows[] = {
     {"list_2_errors_radius_1", RING, 2, 1, {ours_list, fec_list, second_list}, {{0}}, {0}},
     {"list_noise_radius_1", NOISE, 0, 1, {ours_list, fec_list, second_list}, {{0}}, {0}},
     {"block_9_rows", BLOCK, 0, 0, {ours_block, plain_block, second_block}, {{0}}, {0}},
+    {"quotients_62", FIELD, 0, 0, {ours_quotients, plain_quotients, second_quotients}, {{0}}, {0}},
 };
 
 enum { ROWS = sizeof rows / sizeof rows[0] };
@@ -193,6 +222,7 @@ static void make_word(const row *w, uint8_t *word) {
     switch (w->of) {
     case ENCODE:
     case NOISE:
+    case FIELD:
         return;
     case BLOCK: {
         uint8_t data[8];
@@ -289,6 +319,7 @@ int main(int argc, char **argv) {
     fec = init_rs_char(6, 0x43, 58, 1, 11, 0);
     if (fec == NULL)
         return 1;
+    make_logs();
     for (row *w = rows; w < rows + ROWS; w++)
         for (int i = 0; i < words_of(w); i++)
             make_word(w, w->words[i]);

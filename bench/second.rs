@@ -65,6 +65,13 @@ pub unsafe extern "C" fn second_list(input: *const u8, radius: u8, r: &mut Reply
 }
 
 #[no_mangle]
+pub unsafe extern "C" fn second_quotients(input: *const u8, _: u8, r: &mut Reply) {
+    let quotients: Vec<Option<u8>> = from_raw_parts(input, 63).windows(2).map(|two| field::quotient(two[0], two[1])).collect();
+    let refused = quotients.iter().filter(|quotient| quotient.is_none()).count();
+    r.set(0, refused, 0, &quotients.iter().map(|quotient| quotient.unwrap_or(0)).collect::<Vec<u8>>());
+}
+
+#[no_mangle]
 pub unsafe extern "C" fn second_block(input: *const u8, _: u8, r: &mut Reply) {
     let (answer, distance, out) = block::read(from_raw_parts(input, 9), 9);
     r.set(answer, distance as usize, 0, &out);

@@ -10,7 +10,7 @@ use lib.Bits.{bitXor}
 use lib.Dec.{T, eqb, eqb→eq, ltb, ltb→lt}
 use Rattle.numbers.proofs.Cases.{pos-of-not-zero, bit-cases}
 use Rattle.numbers.proofs.Range.{both, both-left, both-right}
-use Rattle.numbers.proofs.Arms.{NoneFrom, last-of-63}
+use Rattle.numbers.proofs.Arms.{NoneFrom, none-left}
 use Rattle.numbers.proofs.Xor.{xor-assoc}
 use Rattle.refusal.specs.declared.Refusal.the-variants.{ValueOver}
 use Rattle.refusal.specs.Promise.{Test, _else_, Tells}
@@ -75,9 +75,9 @@ inverse-entry u k v q t =
     some : k ≡ 0 → ⊥
     some z = let e : product k v ≡ 0 = ap (λ (x : ℕ). product x v) z ∙ Laws.zero-product v in omega (arith, one)
 
--- what the arms from 1 to 62 leave, of what is not 0
-pub inverse-last : (u v : ℕ) → 0 < u % 64 → NoneFrom 1 62 (u % 64) → T (both (eqb (product 63 v) 1) (ltb v 64)) → v ≡ inverse u
-inverse-last u v p h = inverse-entry u 63 v (last-of-63 u p h)
+-- no number that is not 0 comes to the last arm
+pub inverse-last : (u v : ℕ) → 0 < u % 64 → NoneFrom 1 63 (u % 64) → v ≡ inverse u
+inverse-last u v p h = absurd (none-left u p h)
 
 -- ---- the division: of each operand the low six bits count
 

@@ -89,7 +89,7 @@ pub fn times(u: u8, v: u8) -> u8
     s
 }
 
-// The inverse of what is not 0, by a table that has no entry for 0: of any byte the low six bits count.
+// The inverse of what is not 0, by a table: of any byte the low six bits count. The last arm, which is no element, is never reached.
 pub fn inverse(u: u8) -> u8
     requires { ⌜ 0 < u % 64 ⌝ }
     ensures { λ r. ⌜ r ≡ inverse u ⌝ }
@@ -157,7 +157,8 @@ pub fn inverse(u: u8) -> u8
         60 => 55,
         61 => 16,
         62 => 3,
-        _ => 32,
+        63 => 32,
+        _ => 255,
     }
 }
 

@@ -1,4 +1,4 @@
--- A `match` on a number, an arm for each number from some number on and `_` for the last: what the last arm is told.
+-- A `match` on a number, an arm for each number from some number on and `_` for what is left: what the last arm is told.
 use mathlib.Core.Path.{_≡_, sym}
 use mathlib.Core.Logic.{⊎-elim}
 use Prim.Native.Nat.{ℕ, zero, suc, _+_, _%_, _<_, _≤_}
@@ -22,6 +22,6 @@ none-from k (suc n) x b h = let l : n + k ≤ x = none-from k n x b (h .0) in �
 pub last-of-64 : (u : ℕ) → NoneBelow 63 (u % 64) → u % 64 ≡ 63
 last-of-64 u h = let l : 63 ≤ u % 64 = none-from 0 63 (u % 64) (omega arith) h in omega arith
 
--- the same where they are not 0, and the arms begin at 1
-pub last-of-63 : (u : ℕ) → 0 < u % 64 → NoneFrom 1 62 (u % 64) → u % 64 ≡ 63
-last-of-63 u p h = let l : 63 ≤ u % 64 = none-from 1 62 (u % 64) p h in omega arith
+-- where they are not 0, and 1 to 63 have arms, nothing is left
+pub none-left : (u : ℕ) → 0 < u % 64 → NoneFrom 1 63 (u % 64) → ⊥
+none-left u p h = let l : 64 ≤ u % 64 = none-from 1 63 (u % 64) p h in omega arith

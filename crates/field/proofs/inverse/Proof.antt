@@ -1,4 +1,4 @@
--- `field::inverse` meets its contract: each entry is computed to have the product 1 with its number.
+-- `field::inverse` meets its contract: each entry is computed to have the product 1 with its number, and the last arm is never reached.
 use Rattle.field.specs.Field.{sum, timesX, shifted, product}
 use Rattle.field.proofs.Turns.{inverse-entry, inverse-last}
 use Rattle.field.proofs.inverse.Statement.{statement}
@@ -71,4 +71,5 @@ inverse-spec =
     (λ c. inverse-entry (c .before .args .u) 60 _ (c .match .keys60) tt)
     (λ c. inverse-entry (c .before .args .u) 61 _ (c .match .keys61) tt)
     (λ c. inverse-entry (c .before .args .u) 62 _ (c .match .keys62) tt)
-    (λ c. inverse-last (c .before .args .u) _ (c .before .pre) (c .match .rest) tt))
+    (λ c. inverse-entry (c .before .args .u) 63 _ (c .match .keys63) tt)
+    (λ c. inverse-last (c .before .args .u) _ (c .before .pre) (c .match .rest)))

@@ -63,7 +63,7 @@ enum {
     FILM_CHECKS = 11      /* a register's characters, and the checks */
 };
 
-/* ---- The field of 64 elements: sum, product and quotient. Refusals: 2; of a quotient by 0, once both operands are elements, 13. */
+/* ---- The field of 64 elements: sum, product and quotient. Refusals: 2; of a quotient 2, 13: by 0 there is none. */
 
 typedef struct film_element {
     uint8_t answer;

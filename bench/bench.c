@@ -47,6 +47,13 @@ static void ours_block(const uint8_t *input, uint8_t radius, reply *r) {
     r->answer = block.answer, r->distance = block.distance, r->number = 0, r->length = block.answer == 0 ? 9 : 0;
 }
 
+static void ours_products(const uint8_t *input, uint8_t radius, reply *r) {
+    (void)radius;
+    r->answer = 0, r->distance = 0, r->number = 0, r->length = 62;
+    for (int i = 0; i < 62; i++)
+        r->out[i] = film_product(input[i], input[i + 1]).value;
+}
+
 static void ours_quotients(const uint8_t *input, uint8_t radius, reply *r) {
     (void)radius;
     r->answer = 0, r->distance = 0, r->number = 0, r->length = 62;
@@ -128,12 +135,22 @@ static void plain_block(const uint8_t *input, uint8_t radius, reply *r) {
     }
 }
 
-/* Nor has libfec quotients. The peer is plain C by tables of logarithms; unlike the library it does not test that an operand is an element. */
+/* Nor has libfec products and quotients. The peer is plain C by tables of logarithms; unlike the library it does not test that an operand is an
+ * element. */
 static uint8_t powers[126], logs[64];
 
 static void make_logs(void) {
     for (unsigned i = 0, x = 1; i < 126; i++, x = x < 32 ? 2 * x : (2 * x) ^ 0x43)
         powers[i] = (uint8_t)x, logs[x] = (uint8_t)(i % 63);
+}
+
+static void plain_products(const uint8_t *input, uint8_t radius, reply *r) {
+    (void)radius;
+    r->answer = 0, r->distance = 0, r->number = 0, r->length = 62;
+    for (int i = 0; i < 62; i++) {
+        uint8_t u = input[i], v = input[i + 1];
+        r->out[i] = u == 0 || v == 0 ? 0 : powers[logs[u] + logs[v]];
+    }
 }
 
 static void plain_quotients(const uint8_t *input, uint8_t radius, reply *r) {
@@ -181,6 +198,7 @@ static row rows[] = {
     {"list_2_errors_radius_1", RING, 2, 1, {ours_list, fec_list, second_list}, {{0}}, {0}},
     {"list_noise_radius_1", NOISE, 0, 1, {ours_list, fec_list, second_list}, {{0}}, {0}},
     {"block_9_rows", BLOCK, 0, 0, {ours_block, plain_block, second_block}, {{0}}, {0}},
+    {"products_62", FIELD, 0, 0, {ours_products, plain_products, second_products}, {{0}}, {0}},
     {"quotients_62", FIELD, 0, 0, {ours_quotients, plain_quotients, second_quotients}, {{0}}, {0}},
 };
 

@@ -65,6 +65,12 @@ pub unsafe extern "C" fn second_list(input: *const u8, radius: u8, r: &mut Reply
 }
 
 #[no_mangle]
+pub unsafe extern "C" fn second_products(input: *const u8, _: u8, r: &mut Reply) {
+    let products: Vec<u8> = from_raw_parts(input, 63).windows(2).map(|two| field::product(two[0], two[1])).collect();
+    r.set(0, 0, 0, &products);
+}
+
+#[no_mangle]
 pub unsafe extern "C" fn second_quotients(input: *const u8, _: u8, r: &mut Reply) {
     let quotients: Vec<Option<u8>> = from_raw_parts(input, 63).windows(2).map(|two| field::quotient(two[0], two[1])).collect();
     let refused = quotients.iter().filter(|quotient| quotient.is_none()).count();

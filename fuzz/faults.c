@@ -4,10 +4,20 @@
 #include "film.h"
 #include <string.h>
 
+film_element __real_film_product(uint8_t u, uint8_t v);
 film_element __real_film_quotient(uint8_t u, uint8_t v);
 film_line __real_film_read_line(const uint8_t *word, size_t word_len, uint8_t radius, uint8_t *out, size_t out_len);
 film_list __real_film_list_ring(const uint8_t *ring, size_t ring_len, uint8_t radius, uint8_t *out, size_t out_len);
 film_block __real_film_read_block(const uint8_t *rows, size_t rows_len, uint8_t *out, size_t out_len);
+
+film_element __wrap_film_product(uint8_t u, uint8_t v) {
+    film_element r = __real_film_product(u, v);
+#if FAULT == 11 /* half of the column of 2 by another polynomial: 32 times 2 is 5 */
+    if (r.answer == FILM_DONE && u > 31 && v == 2)
+        r.value ^= 6;
+#endif
+    return r;
+}
 
 film_element __wrap_film_quotient(uint8_t u, uint8_t v) {
     film_element r = __real_film_quotient(u, v);

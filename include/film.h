@@ -26,7 +26,7 @@ extern "C" {
 
 #define FILM_VERSION_MAJOR 3
 #define FILM_VERSION_MINOR 0
-#define FILM_VERSION_PATCH 0
+#define FILM_VERSION_PATCH 1
 #define FILM_VERSION (1000000 * FILM_VERSION_MAJOR + 1000 * FILM_VERSION_MINOR + FILM_VERSION_PATCH)
 
 /* The version of the library that is linked, as FILM_VERSION writes it: a program that was compiled with another header
@@ -63,7 +63,8 @@ enum {
     FILM_CHECKS = 11      /* a register's characters, and the checks */
 };
 
-/* ---- The field of 64 elements: sum, product and quotient. Refusals: 2; of a quotient 2, 13: by 0 there is none. */
+/* ---- The field of 64 elements: sum, product and quotient. Refusals: 2; of a quotient 2, 13: by 0 there is none. A product
+ * and a quotient are looked up in a table that each call lays out anew: who needs very many asks for all 4,096 once. */
 
 typedef struct film_element {
     uint8_t answer;

@@ -16,6 +16,7 @@ mod encoder;
 mod even;
 mod false_starts;
 mod field;
+mod finger;
 mod interface;
 mod lent;
 mod line;
@@ -37,7 +38,7 @@ use std::fmt::Debug;
 use std::process::exit;
 
 /// The version that the library has to tell. tools/tables writes it from version.txt.
-const VERSION: u32 = 3000000;
+const VERSION: u32 = 3000001;
 
 /// Each call, and every answer that it can give.
 const ANSWERS: [(&str, &[u8]); 12] = [
@@ -342,6 +343,7 @@ fn main() {
     }
     let mut comparison = Comparison { code: Code::new(), random: Random::new(seed), given: BTreeMap::new() };
     comparison.operands();
+    comparison.looked_up();
     comparison.lengths();
     comparison.high_bytes();
     comparison.bench_rows();

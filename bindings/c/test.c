@@ -37,10 +37,24 @@ static const int wrongs = sizeof wrong / sizeof wrong[0];
 
 static uint8_t zeros[ROOM], z[FILM_CHARACTERS];
 
+/* The product of polynomials over bits, reduced by x^6 + x + 1. */
+static unsigned of_polynomials(unsigned u, unsigned v) {
+    unsigned product = 0;
+    for (; v != 0; v /= 2, u = u < 32 ? 2 * u : (2 * u) ^ 67)
+        product ^= v % 2 * u;
+    return product;
+}
+
 static void field(void) {
     EXPECT(film_sum(5, 3).answer == 0 && film_sum(5, 3).value == 6);
     EXPECT(film_product(32, 2).value == 3 && film_product(33, 2).value == 1);
     EXPECT(film_quotient(1, 2).value == 33 && film_quotient(0, 5).answer == FILM_DONE && film_quotient(0, 5).value == 0);
+    for (unsigned u = 0; u < 64; u++)
+        for (unsigned v = 0; v < 64; v++) {
+            film_element r = film_product((uint8_t)u, (uint8_t)v);
+            EXPECT(r.answer == FILM_DONE && r.value == of_polynomials(u, v));
+            EXPECT(v == 0 || film_quotient(r.value, (uint8_t)v).value == u);
+        }
     for (int u = 0; u < 256; u++) {
         film_element r = film_quotient((uint8_t)u, 0);
         EXPECT(r.answer == (u > 63 ? FILM_VALUE_OVER : FILM_QUOTIENT_BY_ZERO) && r.value == 0);

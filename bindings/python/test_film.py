@@ -34,6 +34,21 @@ class Tests(unittest.TestCase):
                 self.refused(2, call, 1, bad)
             self.assertRaises(ValueError, call, -1, 0)
 
+    def test_every_product(self):
+        """Each product is that of polynomials over bits, reduced by x^6 + x + 1, and a quotient undoes it."""
+        for u in range(64):
+            multiples = [u]
+            while len(multiples) < 6:
+                twice = 2 * multiples[-1]
+                multiples.append(twice ^ 0b1000011 if twice > 63 else twice)
+            for v in range(64):
+                due = 0
+                for bit, multiple in enumerate(multiples):
+                    due ^= (v >> bit & 1) * multiple
+                self.assertEqual(film.product(u, v), due)
+                if v:
+                    self.assertEqual(film.quotient(due, v), u)
+
     def test_encoding(self):
         text = bytes(a in (5, 6, 14, 15, 23, 24, 32, 33, 41, 42) for a in range(50))
         line = film.encode_line(text, 65)

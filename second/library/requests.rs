@@ -1,8 +1,13 @@
-//! The parts of the comparison that the change requests speak of: lines merged by exclusive or, undamaged rings, blocks whose columns are even, and words
-//! whose locator has a root twice.
+//! The parts of the comparison that the change requests speak of: lines merged by exclusive or, undamaged rings, blocks whose columns are even, words
+//! whose locator has a root twice, and products looked up on the page.
 
+use crate::interface::film_product;
 use crate::line::{number, random_line};
-use crate::{adding, even, false_starts, ring, twice, Comparison};
+use crate::{adding, even, false_starts, finger, ring, twice, Comparison};
+use std::fs;
+
+/// Where the table of products is written: as the code has it, and as a page.
+const TABLES: [&str; 2] = ["crates/field/src/table.rt", "docs/PRODUCTS.md"];
 
 impl Comparison {
     /// Lines merged, and a clean word turned or reversed: each word is read, and the line that it is read as is encoded.
@@ -60,6 +65,7 @@ impl Comparison {
         }
         self.encode_block(&even::data_of(&even), count);
     }
+
     /// A word whose locator has a root twice, read at every radius, and recorded on a ring.
     pub fn roots_twice(&mut self) {
         let roots = 2 + self.random.below(4);
@@ -70,5 +76,17 @@ impl Comparison {
         let recorded = ring::recorded(&word, self.random.below(126));
         self.list_ring(&recorded, 5, 126);
         self.read_ring(&recorded, 5, 63);
+    }
+
+    /// Every product as a finger finds it in the written table, held against the library's.
+    pub fn looked_up(&mut self) {
+        for path in TABLES {
+            let text = fs::read_to_string(path).expect("run this from the project's root");
+            let entries = finger::entries(&text);
+            for (u, v) in (0..64).flat_map(|u| (0..64).map(move |v| (u, v))) {
+                let r = unsafe { film_product(u, v) };
+                self.hold("product", &(path, u, v), (vec![r.answer as usize], Some(r.value)), (vec![0], entries.get(&(u, v)).copied()));
+            }
+        }
     }
 }

@@ -36,6 +36,22 @@ fn the_field() {
     }
 }
 
+/// The product of polynomials over bits, reduced by x^6 + x + 1.
+fn of_polynomials(u: u8, v: u8) -> u8 {
+    let reduced = |p: u8| if p < 64 { p } else { p ^ 0b1000011 };
+    (0..6).rev().fold(0, |product, k| reduced(2 * product) ^ (v >> k & 1) * u)
+}
+
+#[test]
+fn every_product() {
+    for (u, v) in (0..64).flat_map(|u| (0..64).map(move |v| (u, v))) {
+        assert_eq!(film::product(u, v), Ok(of_polynomials(u, v)));
+        if v != 0 {
+            assert_eq!(film::quotient(of_polynomials(u, v), v), Ok(u));
+        }
+    }
+}
+
 #[test]
 fn a_line() {
     let mut text = [0; 50];

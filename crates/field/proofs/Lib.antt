@@ -1,5 +1,6 @@
--- The field's laws, the turns of its code, and its theorems.
+-- The field's laws, the table of products, the turns of its code, and its theorems.
 pub mod Laws
 pub mod Totals
+pub mod Lookup
 pub mod Turns
 pub mod Theorems

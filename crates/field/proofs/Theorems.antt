@@ -1,4 +1,5 @@
--- The field's theorems, in the paper's order: the powers of α, the quotient, that each entry point allows one answer, and which answer a quotient by 0 has.
+-- The field's theorems, in the paper's order: the powers of α, the quotient, that each entry point allows one answer, which answer a quotient by 0 has, and
+-- what a finger finds in the written table of products.
 use mathlib.Core.Path.{_≡_, refl, sym, ap, _∙_}
 use mathlib.Core.Bool.{true, false}
 use mathlib.Core.Logic.{⊎-elim}
@@ -14,10 +15,10 @@ use Rattle.numbers.proofs.Cases.{same-or-not, le-or-lt}
 use Rattle.field.specs.declared.Element.{Element}
 use Rattle.field.specs.declared.Element.the-variants.{Value, Refused}
 use Rattle.field.specs.Field.{sum, timesX, shifted, product, α, power, Log, Quotient}
-use Rattle.field.specs.Inside.{inverse}
+use Rattle.field.specs.Inside.{lookedUp, Products, inverse}
 use Rattle.field.specs.Promises.{elementNumbers, Operands, operandTests, divisionTests, OneValue, Operates, Sums, Multiplies, Divides}
 use Rattle.field.proofs.Laws
-use Rattle.field.proofs.Turns.{none-over, not-elements, by-nothing, by-something}
+use Rattle.field.proofs.Turns.{none-over, not-elements, both-elements, by-nothing, by-something}
 
 -- the powers of α run 1, 2, 4, 8, 16, 32, 3, 6, 12, 24, 48, 35, ..
 pub first-powers : map (power α) (0 ∷ 1 ∷ 2 ∷ 3 ∷ 4 ∷ 5 ∷ 6 ∷ 7 ∷ 8 ∷ 9 ∷ 10 ∷ 11 ∷ []) ≡ 1 ∷ 2 ∷ 4 ∷ 8 ∷ 16 ∷ 32 ∷ 3 ∷ 6 ∷ 12 ∷ 24 ∷ 48 ∷ 35 ∷ []
@@ -106,3 +107,31 @@ pub by-others : (u v : ℕ) → u ≤ 63 → v ≤ 63 → 0 < v → (r : Element
 by-others u v hu hv p r d =
     let q = a-quotient u v (omega arith) p (omega arith) in
     (q .0, one-division u v r (Value (q .0)) d (by-something u v true (none-over u v hu hv) refl (q .0) (q .1)), q .1)
+
+-- ---- the written table
+
+-- any two tables of products have the same entries
+pub one-table : (s t : List (List ℕ)) → Products s → Products t → (u v : ℕ) → u < 64 → v < 64 → lookedUp s u v ≡ lookedUp t u v
+one-table s t p q u v hu hv = p .entry u v hu hv ∙ sym (q .entry u v hu hv)
+
+module _ (rows : List (List ℕ)) (p : Products rows) where
+  -- every answer to a product of two elements is what stands in the row of the one and the column of the other
+  pub product-there : (u v : ℕ) → u ≤ 63 → v ≤ 63 → (r : Element) → Multiplies u v (elementNumbers r) → r ≡ Value (lookedUp rows u v)
+  product-there u v hu hv r m =
+      one-product u v r (Value (lookedUp rows u v)) m
+      (both-elements (λ w. w ≡ product u v) u v true (none-over u v hu hv) refl (lookedUp rows u v) (p .entry u v (omega arith) (omega arith)))
+
+  -- whichever of the two is the row
+  pub either-way : (u v : ℕ) → u < 64 → v < 64 → lookedUp rows u v ≡ lookedUp rows v u
+  either-way u v hu hv = p .entry u v hu hv ∙ Laws.product-comm u v ∙ sym (p .entry v u hv hu)
+
+  -- 0 has a row like every other element, of zeros
+  pub row-of-zero : (v : ℕ) → v < 64 → lookedUp rows 0 v ≡ 0
+  row-of-zero v h = p .entry 0 v (omega arith) h ∙ Laws.zero-product v
+
+  -- the row of v has u in the column of the quotient of u by v, and in no other
+  pub quotient-there : (u v w : ℕ) → v < 64 → Quotient u v w → lookedUp rows v w ≡ u
+  quotient-there u v w h q = p .entry v w h (q .element) ∙ q .exact
+
+  pub there-quotient : (u v w : ℕ) → 0 < v → v < 64 → w < 64 → lookedUp rows v w ≡ u → Quotient u v w
+  there-quotient u v w pos hv hw e = record { divisor = pos; element = hw; exact = sym (p .entry v w hv hw) ∙ e }

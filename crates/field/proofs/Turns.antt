@@ -1,61 +1,22 @@
--- What the field's code does, a turn and a way out at a time, over plain variables.
+-- What the field's code does over plain variables: an entry of the table of inverses, a division, a test, and a way out at a time.
 use mathlib.Core.Path.{_≡_, refl, sym, ap, _∙_, subst}
 use mathlib.Core.Logic.{inl, inr}
 use mathlib.Core.Bool.{Bool, true, false}
 use mathlib.Core.List.{List, [], _∷_}
-use Prim.Native.Nat.{ℕ, suc, _+_, _-_, _*_, _/_, _%_, _<_, _≤_}
+use Prim.Native.Nat.{ℕ, _%_, _<_, _≤_}
 use native.Mathlib.Nat.{mod-eq-of-lt}
 use native.Mathlib.Omega.{arith}
-use lib.Bits.{bitXor}
 use lib.Dec.{T, eqb, eqb→eq, ltb, ltb→lt}
-use Rattle.numbers.proofs.Cases.{pos-of-not-zero, bit-cases}
+use Rattle.numbers.proofs.Cases.{pos-of-not-zero}
 use Rattle.numbers.proofs.Range.{both, both-left, both-right}
 use Rattle.numbers.proofs.Arms.{NoneFrom, none-left}
-use Rattle.numbers.proofs.Xor.{xor-assoc}
 use Rattle.refusal.specs.declared.Refusal.the-variants.{ValueOver}
 use Rattle.refusal.specs.Promise.{Test, _else_, Tells}
 use Rattle.refusal.proofs.Laws.{tells-yes, tells-no}
-use Rattle.field.specs.Field.{sum, timesX, shifted, product, Quotient}
+use Rattle.field.specs.Field.{product, Quotient}
 use Rattle.field.specs.Inside.{inverse}
 use Rattle.field.specs.Promises.{Operands, operandTests, Operates, Divides}
 use Rattle.field.proofs.Laws
-
--- ---- the product by shift and add
-
--- i of the six bits are added: what is left of them makes s the product
-pub record AddedTo (u v a b s i : ℕ) : Type 0 where
-  pub most : i ≤ 6
-  pub small : a < 64
-  pub rest : sum s (shifted (6 - i) a b) ≡ product u v
-
-pub added-none : (u v a : ℕ) → a ≡ u % 64 → AddedTo u v a v 0 0
-unfolding product
-added-none u v a e =
-    record { most = omega arith; small = omega arith; rest = Laws.zero-sum (shifted 6 a v) ∙ ap (λ (x : ℕ). shifted 6 x v) e }
-
--- a bit times an element fits a byte
-pub bit-fits : (u v a b s i : ℕ) → AddedTo u v a b s i → b % 2 * a < 256
-bit-fits u v a b s i t = let h : a < 64 = t .small in bit-cases (λ (x : ℕ). x * a < 256) (omega arith) (omega arith) b
-
-one-bit : (s a b n : ℕ) → sum (bitXor s (b % 2 * a)) (shifted n (timesX a) (b / 2)) ≡ sum s (shifted (suc n) a b)
-unfolding sum shifted
-one-bit s a b n = xor-assoc s (b % 2 * a) (shifted n (timesX a) (b / 2))
-
-pub added-again : (u v a b s i a′ : ℕ) → i < 6 → AddedTo u v a b s i → a′ ≡ timesX a → AddedTo u v a′ (b / 2) (bitXor s (b % 2 * a)) (i + 1)
-added-again u v a b s i a′ h t e =
-    let n : ℕ = 6 - (i + 1) in
-    let d : 6 - i ≡ suc n = omega arith in
-    record {
-      most = omega arith;
-      small = rw e (Laws.timesX-lt a);
-      rest = ap (λ (x : ℕ). sum (bitXor s (b % 2 * a)) (shifted n x (b / 2))) e ∙ one-bit s a b n ∙ sym (ap (λ (m : ℕ). sum s (shifted m a b)) d) ∙ t .rest;
-    }
-
-pub added-all : (u v a b s i : ℕ) → 6 ≤ i → AddedTo u v a b s i → s ≡ product u v
-unfolding shifted
-added-all u v a b s i h t =
-    let e : 6 - i ≡ 0 = omega arith in
-    sym (Laws.sum-zero s) ∙ sym (ap (λ (n : ℕ). sum s (shifted n a b)) e) ∙ t .rest
 
 -- ---- the inverse, by its table
 

@@ -2,10 +2,12 @@
 ghost use mathlib.Core.Path.{_≡_};
 ghost use Prim.Native.Nat.{_%_, _<_};
 ghost use Rattle.refusal.specs.Promise.{Tells};
-ghost use Rattle.field.specs.Field.{sum, timesX, product, Quotient};
+ghost use Rattle.field.specs.Field.{sum, product, Quotient};
 ghost use Rattle.field.specs.Promises.{elementNumbers, Operands, Sums, Multiplies, Divides};
-ghost use Rattle.field.specs.Inside.{inverse};
+ghost use Rattle.field.specs.Inside.{Products, inverse};
 use refusal::Refusal;
+
+mod table;
 
 pub enum Element {
     Value(u8),
@@ -65,28 +67,21 @@ pub fn plus(u: u8, v: u8) -> u8
     u ^ v
 }
 
-// x times any byte.
-pub fn times_x(u: u8) -> u8
-    ensures { λ r. ⌜ r ≡ timesX u ⌝ }
+// The written table of products.
+fn products() -> [[u8; 64]; 64]
+    ensures { λ r. ⌜ Products r ⌝ }
 {
-    (u % 32 * 2) ^ (u / 32 % 2 * 3)
+    table::PRODUCTS
 }
 
-// The product of any two bytes, by shift and add: no branch and no table, so its time does not depend on the operands.
+// The product of any two bytes, looked up: of each the low six bits count.
 pub fn times(u: u8, v: u8) -> u8
     ensures { λ r. ⌜ r ≡ product u v ⌝ }
 {
-    let mut a = u % 64;
-    let mut b = v;
-    let mut s: u8 = 0;
-    let mut i: usize = 0;
-    while i < 6 {
-        s = s ^ (b % 2 * a);
-        a = times_x(a);
-        b = b / 2;
-        i += 1;
-    }
-    s
+    let written = products();
+    let row = (u % 64) as usize;
+    let column = (v % 64) as usize;
+    written[row][column]
 }
 
 // The inverse of what is not 0, by a table: of any byte the low six bits count. The last arm, which is no element, is never reached.
@@ -163,7 +158,7 @@ pub fn inverse(u: u8) -> u8
 }
 
 // The quotient of any byte by one that is not 0: of each the low six bits count.
-pub fn over(u: u8, v: u8) -> u8
+fn over(u: u8, v: u8) -> u8
     requires { ⌜ 0 < v % 64 ⌝ }
     ensures { λ r. ⌜ Quotient (u % 64) (v % 64) r ⌝ }
 {

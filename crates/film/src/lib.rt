@@ -22,7 +22,7 @@ use ring::RingListing;
 use ring::RingReading;
 
 // The library's version: a million times the major number, a thousand times the minor, and the patch. tools/tables writes it from version.txt.
-const VERSION: u32 = 3000000;
+const VERSION: u32 = 3000001;
 
 // The version of the library that is linked.
 #[no_mangle]

@@ -10,7 +10,7 @@ use Rattle.numbers.proofs.Xor.{xor-assoc}
 use Rattle.field.specs.Field.{sum, timesX, shifted, product, total}
 use Rattle.field.proofs.Laws
 use Rattle.lanes.specs.Lanes.{pack, lane}
-use Rattle.lanes.proofs.Laws.{lane-lt, lane-zero, lane-suc, pack-same, pack-lt, lane-pack, pack-lanes, xor-pack, and-lanes, times-pack}
+use Rattle.lanes.proofs.Laws.{lane-lt, lane-zero, lane-suc, pack-same, pack-lt, low-pack, lane-pack, pack-lanes, xor-pack, and-lanes, times-pack}
 
 -- ---- masks
 
@@ -143,6 +143,12 @@ scaled-again p f a b s i a′ h l e =
 
 pub scaled-all : (p f a b s i : ℕ) → 6 ≤ i → ScaledTo p f a b s i → s ≡ pack 10 (λ k. product (lane p k) f)
 scaled-all p f a b s i h l = lanes-all p (λ k. b) (λ k. f) a s i h l
+
+-- one product: the lowest lane of any number is its low six bits
+pub lowest-lane : (u v p : ℕ) → p ≡ pack 10 (λ k. product (lane u k) v) → p % 64 ≡ product u v
+lowest-lane u v p e =
+    ap (λ (n : ℕ). n % 64) e ∙ low-pack 9 (λ k. product (lane u k) v) (Laws.product-lt (lane u 0) v) ∙ ap (λ (x : ℕ). product x v) (lane-zero u)
+    ∙ Laws.product-low u v
 
 -- ---- lane by lane
 

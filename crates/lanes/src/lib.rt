@@ -1,4 +1,4 @@
-// Ten elements at once, in six-bit lanes of one number: x times each, each times one element, and lane by lane.
+// Ten elements at once, in six-bit lanes of one number: x times each, each times one element, and lane by lane; and one product in the lowest lane.
 ghost use mathlib.Core.Path.{_≡_};
 ghost use Prim.Native.Nat.{_*_, _/_, _%_};
 ghost use lib.Bits.{bitXor};
@@ -51,6 +51,14 @@ pub fn scale(p: u64, f: u8) -> u64
         i += 1;
     }
     s
+}
+
+// The product of any two bytes, of which the low six bits count, in the lowest lane. Reading multiplies so: the field's own product lays its table out
+// anew at each call.
+pub fn times(u: u8, v: u8) -> u8
+    ensures { λ r. ⌜ r ≡ product u v ⌝ }
+{
+    (scale(u as u64, v) % 64) as u8
 }
 
 // Each of ten lanes times one element, as `scale`: where the lanes are a constant, both choices become tables.

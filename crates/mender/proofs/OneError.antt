@@ -9,7 +9,7 @@ use native.Mathlib.Omega.{arith}
 use lib.ListN.{length, getD, replicate, set, length-set}
 use lib.Seq.{getD-set-same, getD-set-other}
 use Rattle.numbers.proofs.Cases.{pos-of-not-zero, same-or-not}
-use Rattle.field.specs.Field.{sum, product, α, power, Quotient}
+use Rattle.field.specs.Field.{sum, product, α, power}
 use Rattle.field.proofs.Laws
 use Rattle.field.proofs.Totals.{total-none}
 use Rattle.lanes.specs.Lanes.{pack, lane}
@@ -145,11 +145,11 @@ after-first h =
 pub sum-divides : (a y : ℕ) → y ≡ a % 64 → (y ≡ 0 → ⊥) → 0 < y % 64
 sum-divides a y e = Laws.may-divide y (omega arith)
 
-pub one-error : (h : Eleven) (y z x p l : ℕ) → y ≡ h .first / 1073741824 % 64 → (y ≡ 0 → ⊥) → Quotient (z % 64) (y % 64) x
+pub one-error : (h : Eleven) (y z i x p l : ℕ) → y ≡ h .first / 1073741824 % 64 → (y ≡ 0 → ⊥) → x ≡ product z i
     → p ≡ pack 10 (λ k. product (lane (h .first) k) x) → p ≡ h .first / 64 % 18014398509481984 + h .last % 64 * 18014398509481984
     → LogOf x l → OneError (eleven h) (record { found = true; address = 62 - l; value = y })
 unfolding lane
-one-error h y z x p l ey d q ep en log =
+one-error h y z i x p l ey d q ep en log =
     let b : l < 63 = log .below in
     record {
       inside = λ _. omega arith;
@@ -159,7 +159,7 @@ one-error h y z x p l ey d q ep en log =
           (λ k i.
           sym (pack-equal 10 (λ k. product (lane (h .first) k) x) (λ k. getD (eleven h) (suc k) 0) (λ k. Laws.product-lt (lane (h .first) k) x) (λ k. eleven-characters h (suc k)) (sym ep ∙ en ∙ after-first h) k i)
           ∙ ap (λ (t : ℕ). product t x) (sym (eleven-first h k i)))
-          (ey ∙ sym (eleven-first h 5 (omega arith))) (pos-of-not-zero y d) (q .element) log;
+          (ey ∙ sym (eleven-first h 5 (omega arith))) (pos-of-not-zero y d) (subst (λ (n : ℕ). n < 64) (sym q) (Laws.product-lt z i)) log;
     }
 
 pub no-error : (s : List ℕ) (o : Single) → o .found ≡ false → OneError s o

@@ -456,7 +456,7 @@ fn lone_error(s: Eleven) -> Single
     if value == 0 {
         return no_single();
     }
-    let place = field::over((s.first / SIX_LANES % 64) as u8, value);
+    let place = lanes::times((s.first / SIX_LANES % 64) as u8, field::inverse(value));
     let after = s.first / 64 % NINE_LANES + (s.last % 64) as u64 * NINE_LANES;
     let turned = lanes::scale(s.first, place);
     if turned != after {
@@ -545,7 +545,7 @@ fn row_cleared(mut x: [u64; 6], j: usize, p: usize) -> [u64; 6]
     let high = multiples(lanes::scale(a, 8));
     let mut i = p + 1;
     while i < 6 {
-        let f = field::times(inverse, lane_of(x[i], j));
+        let f = lanes::times(inverse, lane_of(x[i], j));
         x[i] = x[i] ^ low[(f % 8) as usize] ^ high[(f / 8) as usize];
         i += 1;
     }

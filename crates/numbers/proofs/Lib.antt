@@ -1,6 +1,7 @@
--- The laws of numbers: cases, tests over a range, the arms of a match, bits, exclusive or.
+-- The laws of numbers: cases, tests over a range and over a list, the arms of a match, bits, exclusive or.
 pub mod Cases
 pub mod Range
+pub mod Entries
 pub mod Arms
 pub mod Bits
 pub mod Xor

@@ -1,13 +1,12 @@
--- `field::products` meets its contract: the written table is computed to be the rows of multiples, all 4,096 entries in one test.
-use mathlib.Core.Path.{refl}
-use Rattle.field.specs.Field.{sum, timesX}
-use Rattle.field.proofs.Lookup.{spread, multiples, rowsFrom, right-table}
+-- `field::products` meets its contract: one test that the checker computes over the whole table, 4,096 entries.
+use Rattle.field.specs.Field.{sum, timesX, shifted, product}
+use Rattle.field.proofs.Lookup.{right-table}
 use Rattle.field.proofs.products.Statement.{statement}
 use Rattle.field.proofs.products.Tie as tie
 
 returns : tie.Need-returns
-unfolding rowsFrom multiples spread timesX sum
-returns c = right-table _ refl
+unfolding product shifted timesX sum
+returns c = right-table _ tt
 
 pub products-spec : {M : Type 1} → statement M
 products-spec = tie.close (tie.spec returns)

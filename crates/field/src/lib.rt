@@ -67,7 +67,7 @@ pub fn plus(u: u8, v: u8) -> u8
     u ^ v
 }
 
-// The written table of products.
+// The written table of products. No other function names it: each that does has its 4,096 numbers in its proof.
 fn products() -> [[u8; 64]; 64]
     ensures { λ r. ⌜ Products r ⌝ }
 {

@@ -24,9 +24,9 @@ extern "C" {
 
 /* ---- The version of this header. tools/tables writes its three numbers from version.txt. */
 
-#define FILM_VERSION_MAJOR 3
+#define FILM_VERSION_MAJOR 4
 #define FILM_VERSION_MINOR 0
-#define FILM_VERSION_PATCH 1
+#define FILM_VERSION_PATCH 0
 #define FILM_VERSION (1000000 * FILM_VERSION_MAJOR + 1000 * FILM_VERSION_MINOR + FILM_VERSION_PATCH)
 
 /* The version of the library that is linked, as FILM_VERSION writes it: a program that was compiled with another header
@@ -105,12 +105,21 @@ film_stepped film_step(film_register before, uint8_t c);
 film_checked film_checks(film_register taken);
 
 /* ---- Reading a line: 63 characters and a radius from 0 to 5. If a line lies within the radius it is the only one: the
- * output, 63 bytes, gets it, and the answer holds its number and its distance from the word. */
+ * output, 63 bytes, gets it, and the answer holds its number, its distance from the word, and the first and the last
+ * address at which the output differs from the word: FILM_NOWHERE and FILM_NOWHERE where it does not. As every other
+ * field they are 0 in a refusal; 0 and 0 is also a success with the character of address 0 alone changed, so look at the
+ * answer first. */
+
+enum {
+    FILM_NOWHERE = 63 /* in the place of an address: nothing was changed */
+};
 
 typedef struct film_line {
     uint8_t answer;
     uint8_t distance;
     uint16_t number;
+    uint8_t first;
+    uint8_t last;
 } film_line;
 
 /* With no wanted number. Refusals: 1, 5, 2, 3, 6. */
@@ -118,6 +127,19 @@ film_line film_read_line(const uint8_t *word, size_t word_len, uint8_t radius, u
 
 /* The line must carry the wanted number. Refusals: 1, 5, 2, 3, 4, 6, 7. */
 film_line film_read_line_wanted(const uint8_t *word, size_t word_len, uint8_t radius, uint16_t wanted, uint8_t *out, size_t out_len);
+
+/* ---- Two scans of one line. Each is read with the radius and no wanted number. The scan that is read with the smaller
+ * distance is the better one, the first where they tie; where one is refused it is the other; where both are, it is
+ * neither, and the answer is the refusal of the first. A scan that is not 63 long is a refused scan. The two may be the
+ * same bytes. */
+
+typedef struct film_choice {
+    uint8_t answer;
+    uint8_t scan; /* 1 the first, 2 the second, 0 neither */
+} film_choice;
+
+/* Which scan to keep. Refusals, those of the first scan where both are refused: 1, 2, 3, 6. */
+film_choice film_better_scan(const uint8_t *first, size_t first_len, const uint8_t *second, size_t second_len, uint8_t radius);
 
 /* ---- A ring of 63 characters. Start k from 0 to 62 is forward: address a is taken from ring place (k + a) mod 63. Start
  * 63 + s, with s from 0 to 62, is backward: address a is taken from place (s - a) mod 63. */
@@ -132,6 +154,8 @@ typedef struct film_ring {
     uint8_t start;
     uint8_t distance;
     uint16_t number;
+    uint8_t first; /* of the word at that start, and so an address of the line, no place on the ring; as in film_line */
+    uint8_t last;
 } film_ring;
 
 /* Lists the starts at which some line lies within the radius: the first `count` bytes of the output, 126 bytes, get them

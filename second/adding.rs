@@ -4,7 +4,7 @@
 //! of theirs.
 
 use crate::code::{added, distance, marks, with_errors, Code};
-use crate::line::{self, number, random_errors, random_line};
+use crate::line::{self, random_errors, random_line, refused, told};
 use crate::random::Random;
 use crate::refusals;
 use crate::ring::word_at;
@@ -19,8 +19,8 @@ impl Tried {
     /// What reading the word gives: the line where the radius reaches it, and else nothing.
     fn due(&self, radius: u8) -> line::Answer {
         match distance(&self.word, &self.line) {
-            apart if apart <= radius as usize => (0, number(&self.line), apart, self.line.clone()),
-            _ => (refusals::NO_LINE, 0, 0, vec![line::UNTOUCHED; 63]),
+            apart if apart <= radius as usize => ([vec![0], told(&self.word, &self.line)].concat(), self.line.clone()),
+            _ => refused(refusals::NO_LINE, 63),
         }
     }
 

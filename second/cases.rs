@@ -5,12 +5,14 @@
 
 mod adding;
 mod block;
+mod changes;
 mod encoder;
 mod even;
 mod false_starts;
 mod field;
 mod line;
 mod ring;
+mod scans;
 mod twice;
 
 use crate::code::Code;
@@ -31,13 +33,14 @@ const LIST_RING: Call = Call(9, "list_ring");
 const READ_RING: Call = Call(10, "read_ring");
 const ENCODE_BLOCK: Call = Call(11, "encode_block");
 const READ_BLOCK: Call = Call(12, "read_block");
+const BETTER_SCAN: Call = Call(13, "better_scan");
 
 /// What is handed over: the head's fields, and the input.
 struct Case<'a> {
     call: Call,
     /// A radius, an operand or a character.
     small: u8,
-    /// The number of a line, a wanted one, or a register's count.
+    /// The number of a line, a wanted one, a register's count, or the length of the first of two scans.
     number: u16,
     /// The length of the output that is lent.
     room: usize,
@@ -98,6 +101,8 @@ pub fn stored() -> (Vec<u8>, String) {
         false_starts::add_all,
         even::add_all,
         twice::add_all,
+        changes::add_all,
+        scans::add_all,
     ];
     for add_all in sections {
         add_all(&mut cases);

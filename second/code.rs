@@ -41,6 +41,12 @@ pub fn distance(one: &[u8], other: &[u8]) -> usize {
     one.iter().zip(other).filter(|(c, d)| c != d).count()
 }
 
+/// The first and the last address at which two words differ, both 63 where they do not: the words are held against each other from either end.
+pub fn changed(one: &[u8], other: &[u8]) -> [usize; 2] {
+    let differs = |&a: &usize| one[a] != other[a];
+    [(0..63).find(differs), (0..63).rfind(differs)].map(|address| address.unwrap_or(63))
+}
+
 impl Code {
     pub fn new() -> Code {
         let powers = field::powers();

@@ -11,6 +11,14 @@ pub struct Line {
     pub answer: u8,
     pub distance: u8,
     pub number: u16,
+    pub first: u8,
+    pub last: u8,
+}
+
+#[repr(C)]
+pub struct Choice {
+    pub answer: u8,
+    pub scan: u8,
 }
 
 #[repr(C)]
@@ -25,6 +33,8 @@ pub struct Ring {
     pub start: u8,
     pub distance: u8,
     pub number: u16,
+    pub first: u8,
+    pub last: u8,
 }
 
 #[repr(C)]
@@ -59,6 +69,7 @@ extern "C" {
     pub fn film_encode_line(text: *const u8, text_len: usize, number: u16, out: *mut u8, out_len: usize) -> u8;
     pub fn film_read_line(word: *const u8, word_len: usize, radius: u8, out: *mut u8, out_len: usize) -> Line;
     pub fn film_read_line_wanted(word: *const u8, word_len: usize, radius: u8, wanted: u16, out: *mut u8, out_len: usize) -> Line;
+    pub fn film_better_scan(first: *const u8, first_len: usize, second: *const u8, second_len: usize, radius: u8) -> Choice;
     pub fn film_list_ring(ring: *const u8, ring_len: usize, radius: u8, out: *mut u8, out_len: usize) -> List;
     pub fn film_read_ring(ring: *const u8, ring_len: usize, radius: u8, out: *mut u8, out_len: usize) -> Ring;
     pub fn film_encode_block(data: *const u8, data_len: usize, out: *mut u8, out_len: usize) -> u8;

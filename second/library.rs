@@ -25,6 +25,7 @@ mod refusals;
 #[path = "library/requests.rs"]
 mod requests;
 mod ring;
+mod scans;
 mod twice;
 
 use code::{added, marks, with_errors, Code};
@@ -38,16 +39,17 @@ use std::fmt::Debug;
 use std::process::exit;
 
 /// The version that the library has to tell. tools/tables writes it from version.txt.
-const VERSION: u32 = 3000001;
+const VERSION: u32 = 4000000;
 
 /// Each call, and every answer that it can give.
-const ANSWERS: [(&str, &[u8]); 12] = [
+const ANSWERS: [(&str, &[u8]); 13] = [
     ("sum", &[0, VALUE_OVER]),
     ("product", &[0, VALUE_OVER]),
     ("quotient", &[0, VALUE_OVER, QUOTIENT_BY_ZERO]),
     ("encode_line", &[0, INPUT_LENGTH, VALUE_OVER, NUMBER_OVER, OUTPUT_LENGTH]),
     ("read_line", &[0, INPUT_LENGTH, VALUE_OVER, RADIUS_OVER, OUTPUT_LENGTH, NO_LINE]),
     ("read_line_wanted", &[0, INPUT_LENGTH, VALUE_OVER, RADIUS_OVER, NUMBER_OVER, OUTPUT_LENGTH, NO_LINE, OTHER_NUMBER]),
+    ("better_scan", &[0, INPUT_LENGTH, VALUE_OVER, RADIUS_OVER, NO_LINE]),
     ("list_ring", &[0, INPUT_LENGTH, VALUE_OVER, RADIUS_OVER, OUTPUT_LENGTH]),
     ("read_ring", &[0, INPUT_LENGTH, VALUE_OVER, RADIUS_OVER, OUTPUT_LENGTH, NO_LINE, MANY_STARTS]),
     ("encode_block", &[0, VALUE_OVER, OUTPUT_LENGTH, ROW_COUNT]),
@@ -97,9 +99,8 @@ impl Comparison {
     }
 
     fn read_line(&mut self, word: &[u8], radius: u8, wanted: Option<u16>, room: usize) {
-        let (answer, number, distance, output) = line::read(&self.code, word, radius, wanted, room);
-        let due = (vec![answer as usize, number as usize, distance], output);
-        let numbers = |r: Line| vec![r.answer as usize, r.number as usize, r.distance as usize];
+        let due = line::read(&self.code, word, radius, wanted, room);
+        let numbers = |r: Line| vec![r.answer as usize, r.number as usize, r.distance as usize, r.first as usize, r.last as usize];
         match wanted {
             None => self.call("read_line", word, &[radius as usize], due, |given, out| unsafe {
                 numbers(film_read_line(given, word.len(), radius, out, room))
@@ -108,6 +109,15 @@ impl Comparison {
                 numbers(film_read_line_wanted(given, word.len(), radius, wanted, out, room))
             }),
         }
+    }
+
+    fn better_scan(&mut self, first: &[u8], second: &[u8], radius: u8) {
+        let due = scans::better(&self.code, first, second, radius);
+        let mut lent = [Lent::new(first), Lent::new(second)];
+        let [one, other] = lent.each_mut().map(Lent::pointer);
+        let r = unsafe { film_better_scan(one, first.len(), other, second.len(), radius) };
+        let as_they_were = lent[0].back() == Some(first) && lent[1].back() == Some(second);
+        self.hold("better_scan", &(first, second, radius), (vec![r.answer as usize, r.scan as usize], as_they_were), (due, true));
     }
 
     fn list_ring(&mut self, ring: &[u8], radius: u8, room: usize) {
@@ -122,7 +132,7 @@ impl Comparison {
         let due = ring::read(&self.code, ring, radius, room);
         self.call("read_ring", ring, &[radius as usize], due, |given, out| unsafe {
             let r = film_read_ring(given, ring.len(), radius, out, room);
-            vec![r.answer as usize, r.start as usize, r.number as usize, r.distance as usize]
+            vec![r.answer as usize, r.start as usize, r.number as usize, r.distance as usize, r.first as usize, r.last as usize]
         });
     }
 
@@ -192,6 +202,9 @@ impl Comparison {
                 self.read_line(&input, radius, wanted, 63);
                 self.read_line(&line, radius, wanted, length);
             }
+            self.better_scan(&input, &line, radius);
+            self.better_scan(&line, &input, radius);
+            self.better_scan(&input, &line[..length.min(62)], radius);
             self.list_ring(&input, radius, 126);
             self.list_ring(&line, radius, length);
             self.read_ring(&input, radius, 63);
@@ -217,6 +230,8 @@ impl Comparison {
                 self.read_line(&word, radius, Some(4096), 63);
                 self.list_ring(&word, radius, 126);
                 self.read_ring(&word, radius, 63);
+                self.better_scan(&word, &word, radius);
+                self.better_scan(&word, &[0; 62], radius);
             }
             self.encode_line(&word[..50], 4096, 63);
             let mut data = self.random.bytes(63, 128);
@@ -355,6 +370,7 @@ fn main() {
             comparison.starts_counted();
             comparison.even_columns();
             comparison.roots_twice();
+            comparison.two_scans();
         }
         if i % 64 == 0 {
             comparison.by_the_character();

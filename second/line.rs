@@ -1,6 +1,6 @@
 //! Line reading: the line within the radius of a word is the nearest one, if it is near enough.
 
-use crate::code::{distance, Code};
+use crate::code::{changed, distance, Code};
 use crate::random::Random;
 use crate::refusals;
 
@@ -10,11 +10,20 @@ pub fn number(line: &[u8]) -> u16 {
     line[50] as u16 * 64 + line[51] as u16
 }
 
-/// The answer, the number, the distance, and the output.
-pub type Answer = (u8, u16, usize, Vec<u8>);
+/// The answer and the fields after it, the number, the distance, the first and the last changed address; and the output.
+pub type Answer = (Vec<usize>, Vec<u8>);
+
+/// What is told of a line that is read from a word.
+pub fn told(word: &[u8], line: &[u8]) -> Vec<usize> {
+    [&[number(line) as usize, distance(word, line)], &changed(word, line)[..]].concat()
+}
+
+pub fn refused(answer: u8, room: usize) -> Answer {
+    (vec![answer as usize, 0, 0, 0, 0], vec![UNTOUCHED; room])
+}
 
 pub fn read(code: &Code, word: &[u8], radius: u8, wanted: Option<u16>, room: usize) -> Answer {
-    let refused = |answer| (answer, 0, 0, vec![UNTOUCHED; room]);
+    let refused = |answer| refused(answer, room);
     if word.len() != 63 {
         return refused(refusals::INPUT_LENGTH);
     }
@@ -36,7 +45,7 @@ pub fn read(code: &Code, word: &[u8], radius: u8, wanted: Option<u16>, room: usi
     if wanted.is_some_and(|n| n != number(&line)) {
         return refused(refusals::OTHER_NUMBER);
     }
-    (0, number(&line), distance(word, &line), line)
+    ([vec![0], told(word, &line)].concat(), line)
 }
 
 /// A line of random text and number.

@@ -17,6 +17,7 @@ mod line;
 mod random;
 mod refusals;
 mod ring;
+mod scans;
 mod sheet;
 mod tray;
 mod twice;

@@ -1,7 +1,7 @@
 //! Rings: the ring itself is turned and reversed, and the word at each of the 126 starts is read whole.
 
 use crate::code::{distance, Code};
-use crate::line::number;
+use crate::line::told;
 use crate::refusals;
 
 const UNTOUCHED: u8 = 170;
@@ -72,13 +72,13 @@ pub fn list(code: &Code, ring: &[u8], radius: u8, room: usize) -> Answer {
 }
 
 pub fn read(code: &Code, ring: &[u8], radius: u8, room: usize) -> Answer {
-    let refused = |number| (vec![number as usize, 0, 0, 0], vec![UNTOUCHED; room]);
+    let refused = |number| (vec![number as usize, 0, 0, 0, 0, 0], vec![UNTOUCHED; room]);
     if let Some(number) = refusal(ring, radius, room, 63) {
         return refused(number);
     }
     match &entries(code, ring, radius as usize)[..] {
         [] => refused(refusals::NO_LINE),
-        [(start, line)] => (vec![0, *start, number(line) as usize, distance(line, &word_at(ring, *start))], line.clone()),
+        [(start, line)] => ([vec![0, *start], told(&word_at(ring, *start), line)].concat(), line.clone()),
         _ => refused(refusals::MANY_STARTS),
     }
 }

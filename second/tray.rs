@@ -20,13 +20,14 @@ fn items(code: &Code, file: &mut &[u8], report: &mut String) -> Option<[u8; 3]> 
     let radius = taken_byte(file)?;
     let lines = taken_byte(file)?;
     for i in 0..lines {
-        let (answer, number, distance, _) = line::read(code, taken(file, 63)?, radius, None, 63);
+        let (fields, _) = line::read(code, taken(file, 63)?, radius, None, 63);
+        let [answer, number, distance, _first, _last] = fields[..] else { panic!("five fields") };
         writeln!(report, "L {i} {answer} {distance} {number}").unwrap();
     }
     let rings = taken_byte(file)?;
     for i in 0..rings {
         let (fields, _) = ring::read(code, taken(file, 63)?, radius, 63);
-        let [answer, start, _number, distance] = fields[..] else { panic!("four fields") };
+        let [answer, start, _number, distance, _first, _last] = fields[..] else { panic!("six fields") };
         writeln!(report, "R {i} {answer} {start} {distance}").unwrap();
     }
     let blocks = taken_byte(file)?;

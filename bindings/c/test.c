@@ -23,12 +23,14 @@ static int kept_after(size_t n) {
     return 1;
 }
 
-static int refused_line(film_line r, int answer) { return r.answer == answer && r.number == 0 && r.distance == 0 && kept_after(0); }
+static int refused_line(film_line r, int answer) {
+    return r.answer == answer && r.number == 0 && r.distance == 0 && r.first == 0 && r.last == 0 && kept_after(0);
+}
 static int refused_list(film_list r, int answer) { return r.answer == answer && r.count == 0 && kept_after(0); }
 static int refused_block(film_block r, int answer) { return r.answer == answer && r.distance == 0 && kept_after(0); }
 
 static int refused_ring(film_ring r, int answer) {
-    return r.answer == answer && r.start == 0 && r.number == 0 && r.distance == 0 && kept_after(0);
+    return r.answer == answer && r.start == 0 && r.number == 0 && r.distance == 0 && r.first == 0 && r.last == 0 && kept_after(0);
 }
 
 /* Lengths that are neither 63 nor 126. */
@@ -95,9 +97,9 @@ static void reading(void) {
     word[60] ^= 5;
     lend();
     film_line r = film_read_line(word, 63, 1, out, 63);
-    EXPECT(r.answer == 0 && r.number == 0 && r.distance == 1 && memcmp(out, z, 63) == 0 && kept_after(63));
+    EXPECT(r.answer == 0 && r.number == 0 && r.distance == 1 && r.first == 60 && r.last == 60 && memcmp(out, z, 63) == 0 && kept_after(63));
     r = film_read_line_wanted(word, 63, 1, 0, out, 63);
-    EXPECT(r.answer == 0 && r.number == 0 && r.distance == 1);
+    EXPECT(r.answer == 0 && r.number == 0 && r.distance == 1 && r.first == 60 && r.last == 60);
     lend();
     EXPECT(refused_line(film_read_line_wanted(word, 63, 1, 1, out, 63), FILM_OTHER_NUMBER));
     EXPECT(refused_line(film_read_line_wanted(word, 63, 5, 4096, out, 63), FILM_NUMBER_OVER));
@@ -118,6 +120,52 @@ static void reading(void) {
     }
 }
 
+/* Nothing changed, and every one and every two addresses. */
+static void changed_addresses(void) {
+    film_line r = film_read_line(z, 63, 5, out, 63);
+    EXPECT(r.answer == 0 && r.distance == 0 && r.first == FILM_NOWHERE && r.last == FILM_NOWHERE);
+    for (int a = 0; a < 63; a++)
+        for (int b = a; b < 63; b++) {
+            uint8_t word[FILM_CHARACTERS];
+            memcpy(word, z, 63);
+            word[a] ^= 11;
+            word[b] ^= (uint8_t)(b == a ? 32 : 1 + a);
+            r = film_read_line(word, 63, 2, out, 63);
+            EXPECT(r.answer == 0 && r.distance == (a == b ? 1 : 2) && r.first == a && r.last == b && memcmp(out, z, 63) == 0);
+        }
+}
+
+static int kept(film_choice r, int scan) { return r.answer == 0 && r.scan == scan; }
+static int refused_both(film_choice r, int answer) { return r.answer == answer && r.scan == 0; }
+
+/* Scans of z with 0 to 6 wrong characters each, at every radius, and scans that are refused. */
+static void two_scans(void) {
+    uint8_t scan[7][FILM_CHARACTERS], high[FILM_CHARACTERS];
+    for (int wrong = 0; wrong < 7; wrong++) {
+        memcpy(scan[wrong], z, 63);
+        for (int i = 0; i < wrong; i++)
+            scan[wrong][10 * i + wrong % 2] ^= 5;
+    }
+    for (int one = 0; one < 7; one++)
+        for (int other = 0; other < 7; other++)
+            for (int radius = 0; radius <= 5; radius++) {
+                film_choice r = film_better_scan(scan[one], 63, scan[other], 63, (uint8_t)radius);
+                if (one > radius && other > radius)
+                    EXPECT(refused_both(r, FILM_NO_LINE));
+                else
+                    EXPECT(kept(r, one <= radius && one <= other ? 1 : 2));
+            }
+    memcpy(high, z, 63);
+    high[62] = 64;
+    EXPECT(refused_both(film_better_scan(z, 62, high, 63, 9), FILM_INPUT_LENGTH));
+    EXPECT(refused_both(film_better_scan(high, 63, z, 62, 9), FILM_VALUE_OVER));
+    EXPECT(refused_both(film_better_scan(z, 63, high, 63, 6), FILM_RADIUS_OVER));
+    EXPECT(refused_both(film_better_scan(NULL, 0, NULL, 0, 255), FILM_INPUT_LENGTH));
+    EXPECT(kept(film_better_scan(NULL, 0, z, 63, 0), 2) && kept(film_better_scan(z, 63, NULL, 0, 0), 1));
+    for (int i = 0; i < wrongs; i++)
+        EXPECT(kept(film_better_scan(zeros, wrong[i], z, 63, 5), 2) && kept(film_better_scan(z, 63, zeros, wrong[i], 5), 1));
+}
+
 static void rings(void) {
     static const uint8_t starts[] = {0, 3, 7, 10, 53, 56, 60, 104, 107, 110, 114, 117, 124};
     uint8_t ring[FILM_CHARACTERS];
@@ -131,6 +179,7 @@ static void rings(void) {
         lend();
         film_ring read = film_read_ring(ring, 63, 1, out, 63);
         EXPECT(read.answer == 0 && read.start == start && read.number == 0 && read.distance == 1 && memcmp(out, z, 63) == 0 && kept_after(63));
+        EXPECT(read.first == (31 + 63 - start) % 63 && read.last == read.first);
     }
     lend();
     EXPECT(film_list_ring(zeros, 63, 0, out, 126).answer == 0 && film_list_ring(zeros, 63, 0, out, 126).count == 0 && kept_after(0));
@@ -232,12 +281,14 @@ static void registers(void) {
 }
 
 int main(void) {
-    EXPECT(sizeof(film_line) == 4 && sizeof(film_ring) == 6 && sizeof(film_register) == 12 && sizeof(film_stepped) == 13 && sizeof(film_checked) == 12);
+    EXPECT(sizeof(film_line) == 6 && sizeof(film_choice) == 2 && sizeof(film_ring) == 8 && sizeof(film_register) == 12 && sizeof(film_stepped) == 13 && sizeof(film_checked) == 12);
     EXPECT(film_version() == FILM_VERSION && FILM_VERSION / 1000000 == FILM_VERSION_MAJOR);
     EXPECT(film_encode_line(zeros, 50, 0, z, 63) == FILM_DONE && z[52] == 32 && z[55] == 8 && z[62] == 1);
     field();
     encoding();
     reading();
+    changed_addresses();
+    two_scans();
     rings();
     blocks();
     row_counts();

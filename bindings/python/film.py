@@ -20,11 +20,14 @@ import pathlib
 from typing import NamedTuple, Optional
 
 # tools/tables writes this from version.txt, and the refusals below from refusals.txt.
-__version__ = "3.0.1"
+__version__ = "4.0.0"
 
 _u8 = ctypes.c_uint8
 _u16 = ctypes.c_uint16
 _u32 = ctypes.c_uint32
+
+# In the place of an address: nothing was changed.
+NOWHERE = 63
 
 # The numbered answers, as the paper gives them; 0 is a success.
 REFUSALS = {
@@ -53,20 +56,25 @@ class Refused(Exception):
 
 
 class LineRead(NamedTuple):
-    """A line that was read, its number, and in how many addresses the word differs from it."""
+    """A line that was read, its number, in how many addresses the word differs from it, and the first and the last of them, or NOWHERE."""
 
     line: bytes
     number: int
     distance: int
+    first: int
+    last: int
 
 
 class RingRead(NamedTuple):
-    """The one start that is listed (0 to 62 forward, 63 to 125 backward), the line there, its number, and its distance."""
+    """The one start that is listed (0 to 62 forward, 63 to 125 backward), the line there, its number, in how many addresses the word there differs from
+    it, and the first and the last of them, addresses of the line and no places on the ring, or NOWHERE."""
 
     line: bytes
     start: int
     number: int
     distance: int
+    first: int
+    last: int
 
 
 class BlockRead(NamedTuple):
@@ -81,7 +89,11 @@ class _Element(ctypes.Structure):
 
 
 class _Line(ctypes.Structure):
-    _fields_ = [("answer", _u8), ("distance", _u8), ("number", _u16)]
+    _fields_ = [("answer", _u8), ("distance", _u8), ("number", _u16), ("first", _u8), ("last", _u8)]
+
+
+class _Choice(ctypes.Structure):
+    _fields_ = [("answer", _u8), ("scan", _u8)]
 
 
 class _List(ctypes.Structure):
@@ -89,7 +101,7 @@ class _List(ctypes.Structure):
 
 
 class _Ring(ctypes.Structure):
-    _fields_ = [("answer", _u8), ("start", _u8), ("distance", _u8), ("number", _u16)]
+    _fields_ = [("answer", _u8), ("start", _u8), ("distance", _u8), ("number", _u16), ("first", _u8), ("last", _u8)]
 
 
 class _Block(ctypes.Structure):
@@ -134,6 +146,7 @@ def _load(path):
         ("checks", [_Register], _Checked),
         ("read_line", given + [_u8] + output, _Line),
         ("read_line_wanted", given + [_u8, _u16] + output, _Line),
+        ("better_scan", given + given + [_u8], _Choice),
         ("list_ring", given + [_u8] + output, _List),
         ("read_ring", given + [_u8] + output, _Ring),
         ("encode_block", given + output, _u8),
@@ -216,7 +229,23 @@ def read_line(word, radius, wanted=None, out: Optional[bytearray] = None) -> Lin
         result, line = _call(_library.film_read_line, word, _byte(radius), room=63, out=out)
     else:
         result, line = _call(_library.film_read_line_wanted, word, _byte(radius), _bounded(wanted, 65535), room=63, out=out)
-    return LineRead(line, result.number, result.distance)
+    return LineRead(line, result.number, result.distance, result.first, result.last)
+
+
+def better_scan(first, second, radius):
+    """The better of two scans of one line, each read with the radius and no wanted number: the caller's own object of the scan that is read with the smaller
+    distance, the first where they tie; the other where one is refused. Where both are, the refusal is the first's.
+
+    >>> line = encode_line(bytes(50), 65)
+    >>> wrong = b"?" + line[1:]
+    >>> better_scan(wrong, line, 5) is line
+    True
+    """
+    one, other = _bytes(first), _bytes(second)
+    result = _library.film_better_scan(one, len(one), other, len(other), _byte(radius))
+    if result.answer:
+        raise Refused(result.answer)
+    return first if result.scan == 1 else second
 
 
 def list_ring(ring, radius, out: Optional[bytearray] = None) -> "list[int]":
@@ -228,7 +257,7 @@ def list_ring(ring, radius, out: Optional[bytearray] = None) -> "list[int]":
 def read_ring(ring, radius, out: Optional[bytearray] = None) -> RingRead:
     """The line at the one start that is listed."""
     result, line = _call(_library.film_read_ring, ring, _byte(radius), room=63, out=out)
-    return RingRead(line, result.start, result.number, result.distance)
+    return RingRead(line, result.start, result.number, result.distance, result.first, result.last)
 
 
 def encode_block(data, out: Optional[bytearray] = None) -> bytes:

@@ -1,6 +1,7 @@
 """Tests of film.py: what each function gives, every refusal by its number, and outputs that stay as they were."""
 
 import doctest
+import itertools
 import pathlib
 import subprocess
 import tempfile
@@ -73,7 +74,7 @@ class Tests(unittest.TestCase):
         for a in (0, 20, 40, 51, 62):
             word[a] ^= 9
         for wanted in (None, 65):
-            self.assertEqual(film.read_line(word, 5, wanted), (line, 65, 5))
+            self.assertEqual(film.read_line(word, 5, wanted), (line, 65, 5, 0, 62))
         self.refused(6, film.read_line, word, 4, room=63)
         self.refused(7, film.read_line, word, 5, 66, room=63)
         self.refused(4, film.read_line, word, 5, 4096, room=63)
@@ -86,6 +87,39 @@ class Tests(unittest.TestCase):
         for a in range(63):
             self.refused(2, film.read_line, Z[:a] + b"\x40" + Z[a + 1 :], 9, 9999, room=63)
 
+    def test_changed_addresses(self):
+        self.assertEqual(film.read_line(Z, 5)[2:], (0, film.NOWHERE, film.NOWHERE))
+        for a in range(63):
+            word = bytearray(Z)
+            word[a] ^= 33
+            self.assertEqual(film.read_line(word, 5)[2:], (1, a, a))
+            for b in range(a):
+                both = bytearray(word)
+                both[b] ^= b + 1
+                self.assertEqual(film.read_line(both, 5)[2:], (2, b, a))
+
+    def test_two_scans(self):
+        def scan(wrong):
+            return bytes(c ^ 7 * (a % 9 == 2 and a // 9 < wrong) for a, c in enumerate(Z))
+
+        for wrong, more, radius in itertools.product(range(7), range(7), range(6)):
+            first, second = scan(wrong), bytearray(scan(more))
+            if wrong > radius and more > radius:
+                self.refused(6, film.better_scan, first, second, radius)
+            else:
+                self.assertIs(film.better_scan(first, second, radius), first if wrong <= min(more, radius) else second)
+        high = b"\x40" + Z[1:]
+        self.refused(1, film.better_scan, Z[1:], high, 9)
+        self.refused(2, film.better_scan, high, Z[1:], 9)
+        self.refused(3, film.better_scan, Z, high, 256)
+        self.refused(1, film.better_scan, b"", b"", 0)
+        for length in (0, 62, 64):
+            self.assertIs(film.better_scan(bytes(length), Z, 0), Z)
+            self.assertIs(film.better_scan(Z, bytes(length), 0), Z)
+        numbers = list(Z)
+        self.assertIs(film.better_scan(numbers, Z, 5), numbers)
+        self.assertRaises(TypeError, film.better_scan, 63, Z, 5)
+
     def test_rings(self):
         out = bytearray([170] * 126)
         self.assertEqual(film.list_ring(Z, 4, out), [0, 104, 107, 110, 114, 117, 124])
@@ -96,9 +130,12 @@ class Tests(unittest.TestCase):
         for start in range(63):
             ring = bytearray(line[63 - start :] + line[: 63 - start])
             ring[start] ^= 1
-            self.assertEqual(film.read_ring(ring, 1), (line, start, 4095, 1))
+            self.assertEqual(film.read_ring(ring, 1), (line, start, 4095, 1, 0, 0))
+            ring[start] ^= 1
+            ring[1] ^= 1
+            self.assertEqual(film.read_ring(ring, 1)[3:], (1, (1 - start) % 63, (1 - start) % 63))
             self.assertEqual(film.list_ring(ring, 1), [start])
-        self.assertEqual(film.read_ring(line[::-1], 0), (line, 125, 4095, 0))
+        self.assertEqual(film.read_ring(line[::-1], 0), (line, 125, 4095, 0, film.NOWHERE, film.NOWHERE))
         self.refused(6, film.read_ring, bytes([1] * 63), 0, room=63)
         self.refused(10, film.read_ring, Z, 4, room=63)
         for call, room in ((film.list_ring, 126), (film.read_ring, 63)):

@@ -6,10 +6,10 @@ use crate::line::{self, number, random_addresses, random_errors, random_line};
 use crate::random::Random;
 
 pub(super) fn add(cases: &mut Cases, word: &[u8], radius: u8, wanted: Option<u16>, room: usize) {
-    let (answer, number, distance, output) = line::read(&cases.code, word, radius, wanted, room);
+    let (numbers, output) = line::read(&cases.code, word, radius, wanted, room);
     let call = if wanted.is_some() { READ_LINE_WANTED } else { READ_LINE };
     let case = Case { small: radius, number: wanted.unwrap_or(0), room, ..Case::new(call, word) };
-    cases.add(case, &[answer as usize, number as usize, distance], &output);
+    cases.add(case, &numbers, &output);
 }
 
 /// A word of 63 characters, whose nearest line is also found by trial.

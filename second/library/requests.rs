@@ -1,9 +1,9 @@
 //! The parts of the comparison that the change requests speak of: lines merged by exclusive or, undamaged rings, blocks whose columns are even, words
-//! whose locator has a root twice, and products looked up on the page.
+//! whose locator has a root twice, two scans of one line, and products looked up on the page.
 
 use crate::interface::film_product;
 use crate::line::{number, random_line};
-use crate::{adding, even, false_starts, finger, ring, twice, Comparison};
+use crate::{adding, even, false_starts, finger, ring, scans, twice, Comparison};
 use std::fs;
 
 /// Where the table of products is written: as the code has it, and as a page.
@@ -76,6 +76,20 @@ impl Comparison {
         let recorded = ring::recorded(&word, self.random.below(126));
         self.list_ring(&recorded, 5, 126);
         self.read_ring(&recorded, 5, 63);
+    }
+
+    /// Two scans of one line, with about as many wrong characters, at every radius; and two words of any kind.
+    pub fn two_scans(&mut self) {
+        let (wrong, more) = (self.random.below(7), self.random.below(3));
+        let [one, other] = scans::random_two(&self.code, &mut self.random, wrong, wrong + more);
+        for radius in 0..=6 {
+            self.better_scan(&one, &other, radius);
+            self.better_scan(&other, &one, radius);
+        }
+        self.better_scan(&one, &one, 5);
+        let radius = self.below(6, 256) as u8;
+        let [word, another] = [(); 2].map(|()| self.word(radius));
+        self.better_scan(&word, &another, radius);
     }
 
     /// Every product as a finger finds it in the written table, held against the library's.

@@ -26,7 +26,7 @@ pub use refusal::Refusal;
 
 /// The version that this crate was made for: a million times the major number, a thousand times the minor, and the patch. It is the crate's own;
 /// tools/tables writes it from version.txt.
-pub const VERSION: u32 = 3000001;
+pub const VERSION: u32 = 4000000;
 
 /// The version of the library that is linked, written as [`VERSION`] is.
 pub fn version() -> u32 {
@@ -61,6 +61,9 @@ pub fn encode_line(text: &[u8], number: u16, out: &mut [u8]) -> Result<(), Refus
     answered(library::encode_line(text, number, out), ())
 }
 
+/// In the place of an address: nothing was changed.
+pub const NOWHERE: u8 = 63;
+
 /// A line that was read.
 #[derive(Clone, Copy, Debug, PartialEq, Eq)]
 pub struct LineRead {
@@ -68,6 +71,10 @@ pub struct LineRead {
     pub number: u16,
     /// In how many addresses the word differs from it.
     pub distance: u8,
+    /// The first address at which the word differs from it, or [`NOWHERE`].
+    pub first: u8,
+    /// The last address at which the word differs from it, or [`NOWHERE`].
+    pub last: u8,
 }
 
 /// Reads a line: `out`, 63 bytes, gets the line within the radius of the word. Where a number is wanted, the line must carry it.
@@ -76,7 +83,25 @@ pub fn read_line(word: &[u8], radius: u8, wanted: Option<u16>, out: &mut [u8]) -
         None => library::read_line(word, radius, out),
         Some(number) => library::read_line_wanted(word, radius, number, out),
     };
-    answered(r.answer, LineRead { number: r.number, distance: r.distance })
+    answered(r.answer, LineRead { number: r.number, distance: r.distance, first: r.first, last: r.last })
+}
+
+/// The better of two scans of one line, each read with the radius and no wanted number: the caller's own slice of the scan that is read with the smaller
+/// distance, the first where they tie; the other where one is refused. Where both are, the refusal is the first's.
+///
+/// ```
+/// let mut line = [0; 63];
+/// film::encode_line(&[7; 50], 65, &mut line)?;
+/// let (mut first, mut second) = (line, line);
+/// first[9] ^= 5;
+/// first[10] ^= 5;
+/// second[62] ^= 1;
+/// assert!(std::ptr::eq(film::better_scan(&first, &second, 5)?, &second));
+/// # Ok::<(), film::Refusal>(())
+/// ```
+pub fn better_scan<'a>(first: &'a [u8], second: &'a [u8], radius: u8) -> Result<&'a [u8], Refusal> {
+    let r = library::better_scan(first, second, radius);
+    answered(r.answer, if r.scan == 1 { first } else { second })
 }
 
 /// Lists a ring: the starts at which some line lies within the radius, in rising order. They are the first bytes of `out`, 126 bytes;
@@ -96,12 +121,16 @@ pub struct RingRead {
     pub number: u16,
     /// In how many addresses the word at the start differs from it.
     pub distance: u8,
+    /// The first of these addresses, or [`NOWHERE`]: an address of the line, no place on the ring.
+    pub first: u8,
+    /// The last of these addresses, or [`NOWHERE`].
+    pub last: u8,
 }
 
 /// Reads a ring: `out`, 63 bytes, gets the line at the one start that is listed.
 pub fn read_ring(ring: &[u8], radius: u8, out: &mut [u8]) -> Result<RingRead, Refusal> {
     let r = library::read_ring(ring, radius, out);
-    answered(r.answer, RingRead { start: r.start, number: r.number, distance: r.distance })
+    answered(r.answer, RingRead { start: r.start, number: r.number, distance: r.distance, first: r.first, last: r.last })
 }
 
 /// Encodes 1 to 63 data rows: `out`, one longer, gets the one proper block with them: every row holds an even number of ones, every column an odd number.

@@ -13,6 +13,14 @@ pub struct Line {
     pub answer: u8,
     pub distance: u8,
     pub number: u16,
+    pub first: u8,
+    pub last: u8,
+}
+
+#[repr(C)]
+pub struct Choice {
+    pub answer: u8,
+    pub scan: u8,
 }
 
 #[repr(C)]
@@ -27,6 +35,8 @@ pub struct Ring {
     pub start: u8,
     pub distance: u8,
     pub number: u16,
+    pub first: u8,
+    pub last: u8,
 }
 
 #[repr(C)]
@@ -56,6 +66,7 @@ extern "C" {
     fn film_encode_line(text: *const u8, text_len: usize, number: u16, out: *mut u8, out_len: usize) -> u8;
     fn film_read_line(word: *const u8, word_len: usize, radius: u8, out: *mut u8, out_len: usize) -> Line;
     fn film_read_line_wanted(word: *const u8, word_len: usize, radius: u8, wanted: u16, out: *mut u8, out_len: usize) -> Line;
+    fn film_better_scan(first: *const u8, first_len: usize, second: *const u8, second_len: usize, radius: u8) -> Choice;
     fn film_list_ring(ring: *const u8, ring_len: usize, radius: u8, out: *mut u8, out_len: usize) -> List;
     fn film_read_ring(ring: *const u8, ring_len: usize, radius: u8, out: *mut u8, out_len: usize) -> Ring;
     fn film_encode_block(data: *const u8, data_len: usize, out: *mut u8, out_len: usize) -> u8;
@@ -93,6 +104,10 @@ pub fn read_line(word: &[u8], radius: u8, out: &mut [u8]) -> Line {
 
 pub fn read_line_wanted(word: &[u8], radius: u8, wanted: u16, out: &mut [u8]) -> Line {
     unsafe { film_read_line_wanted(word.as_ptr(), word.len(), radius, wanted, out.as_mut_ptr(), out.len()) }
+}
+
+pub fn better_scan(first: &[u8], second: &[u8], radius: u8) -> Choice {
+    unsafe { film_better_scan(first.as_ptr(), first.len(), second.as_ptr(), second.len(), radius) }
 }
 
 pub fn list_ring(ring: &[u8], radius: u8, out: &mut [u8]) -> List {

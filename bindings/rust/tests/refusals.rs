@@ -69,11 +69,55 @@ fn a_line() {
     let mut output = [0; 63];
     for wanted in [None, Some(65)] {
         let read = film::read_line(&word, 5, wanted, &mut output).unwrap();
-        assert_eq!((read.number, read.distance, output), (65, 5, line));
+        assert_eq!((read.number, read.distance, read.first, read.last, output), (65, 5, 0, 40, line));
     }
     refused(6, 63, |out| film::read_line(&word, 4, None, out));
     refused(7, 63, |out| film::read_line(&word, 5, Some(66), out));
     refused(6, 63, |out| film::read_line(&word, 4, Some(66), out));
+}
+
+#[test]
+fn changed_addresses() {
+    let mut output = [0; 63];
+    let mut changed = |word: &[u8]| film::read_line(word, 5, None, &mut output).map(|read| (read.distance, read.first, read.last));
+    assert_eq!(changed(&z()), Ok((0, film::NOWHERE, film::NOWHERE)));
+    for a in 0..63 {
+        let mut word = z();
+        word[a] ^= 21;
+        assert_eq!(changed(&word), Ok((1, a as u8, a as u8)));
+        for b in a + 1..63 {
+            let mut word = word;
+            word[b] ^= 1 + (b % 63) as u8;
+            assert_eq!(changed(&word), Ok((2, a as u8, b as u8)));
+        }
+    }
+}
+
+#[test]
+fn two_scans() {
+    let scan = |wrong: usize| -> [u8; 63] { core::array::from_fn(|a| z()[a] ^ if a % 9 < 1 && a / 9 < wrong { 7 } else { 0 }) };
+    for (wrong, more) in (0..=6).flat_map(|wrong| (0..=6).map(move |more| (wrong, more))) {
+        for radius in 0..=5 {
+            let (first, second) = (scan(wrong), scan(more));
+            let near = |count: usize| count <= radius as usize;
+            let kept = film::better_scan(&first, &second, radius).map(<[u8]>::as_ptr);
+            let due = match (near(wrong), near(more)) {
+                (false, false) => Err(Refusal::NoLine),
+                (true, other) if !other || wrong <= more => Ok(first.as_ptr()),
+                _ => Ok(second.as_ptr()),
+            };
+            assert_eq!(kept, due);
+        }
+    }
+    let (line, mut high) = (z(), z());
+    high[5] = 64;
+    // the first's refusal, whatever the second's is; and the part handed back is as long as the scan was
+    assert_eq!(film::better_scan(&line[..62], &high, 6), Err(Refusal::InputLength));
+    assert_eq!(film::better_scan(&high, &line[..62], 6), Err(Refusal::ValueOver));
+    assert_eq!(film::better_scan(&line, &high, 6), Err(Refusal::RadiusOver));
+    assert_eq!(film::better_scan(&[], &[], 255), Err(Refusal::InputLength));
+    assert_eq!(film::better_scan(&[], &line, 0).map(<[u8]>::as_ptr_range), Ok(line.as_ptr_range()));
+    assert_eq!(film::better_scan(&line, &line, 0).map(<[u8]>::as_ptr_range), Ok(line.as_ptr_range()));
 }
 
 #[test]
@@ -119,11 +163,17 @@ fn a_ring() {
         let mut ring = turned(z(), start);
         ring[0] ^= 1;
         let read = film::read_ring(&ring, 1, &mut line).unwrap();
+        let address = ((63 - start) % 63) as u8;
         assert_eq!((read.start as usize, read.number, read.distance, line), (start, 0, 1, z()));
+        assert_eq!((read.first, read.last), (address, address));
     }
     let mut backward = z();
     backward.reverse();
-    assert_eq!(film::read_ring(&backward, 0, &mut line).unwrap().start, 125);
+    let read = film::read_ring(&backward, 0, &mut line).unwrap();
+    assert_eq!((read.start, read.first, read.last), (125, film::NOWHERE, film::NOWHERE));
+    backward[1] ^= 9;
+    let read = film::read_ring(&backward, 1, &mut line).unwrap();
+    assert_eq!((read.start, read.first, read.last), (125, 61, 61));
     refused(6, 63, |out| film::read_ring(&[1; 63], 0, out));
     refused(10, 63, |out| film::read_ring(&z(), 4, out));
     refused(3, 63, |out| film::read_ring(&z(), 6, out));

@@ -96,7 +96,12 @@ fn print_line(title: &[u8], word: [u8; 63], radius: u8, wanted: Wanted) {
     let mut output = [0u8; 63];
     let reading = line::read_line(&word, radius, wanted, &mut output);
     match reading {
-        LineReading::Line { number, distance } => {
+        LineReading::Line {
+            number,
+            distance,
+            first: _,
+            last: _,
+        } => {
             print(b" number");
             print_number(number as u64);
             print(b" distance");

@@ -1,13 +1,16 @@
 // Hands stored cases to the library's functions, and prints a line for each with all that was answered.
 //
 // Standard input is one case after another: a head of eight bytes, and then the input. The head is these bytes, a number's high byte first:
-// the call; a small number (a radius, a first operand or a character); a number of two bytes (of a line, wanted, or a register's count);
+// the call; a small number (a radius, a first operand or a character); a number of two bytes (of a line, wanted, a register's count, or the length of
+// the first of two scans);
 // the length of the output that is lent, in two bytes; the length of the input, in two bytes. No case is too long: there is room for every
 // length that two bytes can say. The output is lent with LENT in every byte, so that it shows where it is left alone.
 //
 // A line is the call's name, the numbers of the answer, and the bytes that were given in hexadecimal, in brackets.
 // Sum, product and quotient: each byte of the input is a second operand, and what is printed for it after a space is the value in two
 // hexadecimal digits, or `r` and the number of the refusal.
+// Better scan: the input is the two scans, one after the other. The numbers are the answer and the scan, and the answer that comes with the part of the
+// input that is handed back; the bytes are that part's.
 // Step and checks: the input is the eleven characters held (0 for each that is not there), and the number's low byte is the count.
 // Any other call: `passed over`.
 // The run ends where the input ends, also within a case, or after MOST_CASES.
@@ -45,6 +48,8 @@ const READ_RING: u8 = 10;
 const ENCODE_BLOCK: u8 = 11;
 
 const READ_BLOCK: u8 = 12;
+
+const BETTER_SCAN: u8 = 13;
 
 // The length of a head.
 const HEAD: usize = 8;
@@ -193,7 +198,13 @@ fn read_line(word: &[u8], radius: u8, output: &mut [u8]) {
     let given = film::film_read_line(word, radius, output);
     show(
         b"read_line",
-        &[given.answer as u16, given.number, given.distance as u16],
+        &[
+            given.answer as u16,
+            given.number,
+            given.distance as u16,
+            given.first as u16,
+            given.last as u16,
+        ],
         output,
     );
 }
@@ -202,7 +213,13 @@ fn read_line_wanted(word: &[u8], radius: u8, wanted: u16, output: &mut [u8]) {
     let given = film::film_read_line_wanted(word, radius, wanted, output);
     show(
         b"read_line_wanted",
-        &[given.answer as u16, given.number, given.distance as u16],
+        &[
+            given.answer as u16,
+            given.number,
+            given.distance as u16,
+            given.first as u16,
+            given.last as u16,
+        ],
         output,
     );
 }
@@ -225,9 +242,32 @@ fn read_ring(ring: &[u8], radius: u8, output: &mut [u8]) {
             given.start as u16,
             given.number,
             given.distance as u16,
+            given.first as u16,
+            given.last as u16,
         ],
         output,
     );
+}
+
+// Which of two scans is kept, as a C program is told, and its bytes, as they are handed back.
+fn better_scan<'a>(first: &'a [u8], second: &'a [u8], radius: u8) {
+    let given = film::film_better_scan(first, second, radius);
+    let mut answer: u8 = 0;
+    let kept = scans::better_scan(first, second, radius, &mut answer);
+    show(
+        b"better_scan",
+        &[given.answer as u16, given.scan as u16, answer as u16],
+        kept,
+    );
+}
+
+// The same of two scans that stand one after the other, the first of a length, or of all there is.
+fn better_of_two(both: &[u8], length: usize, radius: u8) {
+    if length <= both.len() {
+        better_scan(&both[..length], &both[length..], radius);
+    } else {
+        better_scan(both, &both[..0], radius);
+    }
 }
 
 fn encode_block(rows: &[u8], output: &mut [u8]) {
@@ -257,6 +297,7 @@ fn hand_over(call: u8, small: u8, number: u16, input: &[u8], output: &mut [u8]) 
         READ_RING => read_ring(input, small, output),
         ENCODE_BLOCK => encode_block(input, output),
         READ_BLOCK => read_block(input, output),
+        BETTER_SCAN => better_of_two(input, wide(number), small),
         _ => pass_over(),
     }
 }

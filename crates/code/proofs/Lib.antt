@@ -1,6 +1,7 @@
 -- The laws of words, the turns of the code, and the theorems.
 pub mod Words
 pub mod Distances
+pub mod Changes
 pub mod Sums
 pub mod Horner
 pub mod Packing

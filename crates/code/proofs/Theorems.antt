@@ -1,4 +1,4 @@
--- What is proved of words and lines, in the paper's order: the address rule, the distance of 12, the line near a word, text and number, turning and reversing, words added, and one result.
+-- What is proved of words and lines, in the paper's order: the address rule, the distance of 12, the line near a word, where a word was changed, text and number, turning and reversing, words added, and one result.
 use mathlib.Core.Path.{_≡_, sym, ap, ap₂, _∙_}
 use mathlib.Core.Bool.{Bool}
 use mathlib.Core.Logic.{⊎-elim}
@@ -15,7 +15,7 @@ use Rattle.field.proofs.Laws
 use Rattle.lanes.specs.Lanes.{lane}
 use Rattle.lanes.proofs.Laws.{pack-same, pack-lanes}
 use Rattle.polynomial.specs.Sums.{weight}
-use Rattle.code.specs.Word.{powerSum, Clean, added, marks, Line, text, number, distance, turned, reversed}
+use Rattle.code.specs.Word.{powerSum, Clean, added, marks, Line, text, number, distance, nowhere, firstChanged, lastChanged, turned, reversed}
 use Rattle.code.specs.Promises.{TellsLine}
 use Rattle.code.specs.declared.PackedSums.{PackedSums}
 use Rattle.code.specs.declared.Eleven.{Eleven}
@@ -24,6 +24,7 @@ use Rattle.code.specs.Inside.{PowerSums}
 use Rattle.code.specs.Packed.{Packed}
 use Rattle.code.proofs.Sums.{powerSum-lt}
 use Rattle.code.proofs.Distances
+use Rattle.code.proofs.Changes
 use Rattle.code.proofs.Words
 use Rattle.code.proofs.Lines.{clean-added, marks-line, line-long, line-characters}
 use Rattle.code.proofs.Apart
@@ -96,6 +97,29 @@ pub one-clean-near : (w u v : List ℕ) (t : ℕ) → length w ≡ 63 → t ≤ 
 one-clean-near w u v t h l cu cv p q =
     Apart.clean-near u v cu cv
     (let d = Apart.both-near w u v t (cu .long ∙ sym h) (cv .long ∙ sym h) p q in omega arith)
+
+-- a word was changed at the first changed address and at the last, before the one and after the other it was not, and so the first is not beyond the
+-- last; both are 63 where it was not changed at all, and neither is anywhere else
+module _ (w l : List ℕ) (long : length w ≡ 63) (as-long : length l ≡ 63) where
+  pub first-changed : (w ≡ l → ⊥) → Changes.First w l (firstChanged w l)
+  first-changed = Changes.first-there w l (long ∙ sym as-long)
+
+  pub last-changed : (w ≡ l → ⊥) → Changes.Last w l (lastChanged w l)
+  last-changed = Changes.last-there w l (long ∙ sym as-long)
+
+  pub unchanged : w ≡ l → (firstChanged w l ≡ nowhere) × (lastChanged w l ≡ nowhere)
+  unchanged q = (ap (firstChanged w) (sym q) ∙ Changes.nowhere-first w, ap (lastChanged w) (sym q) ∙ Changes.nowhere-last w)
+
+  pub changed-inside : (w ≡ l → ⊥) → (firstChanged w l < nowhere) × (lastChanged w l < nowhere)
+  changed-inside d = let f = first-changed d .inside in let t = last-changed d .inside in (omega arith, omega arith)
+
+  pub first-to-last : firstChanged w l ≤ lastChanged w l
+  first-to-last = ⊎-elim (λ (h : firstChanged w l ≤ lastChanged w l). h) never (le-or-lt (firstChanged w l) (lastChanged w l))
+    where
+      never : lastChanged w l < firstChanged w l → firstChanged w l ≤ lastChanged w l
+      never h =
+          let d : w ≡ l → ⊥ = λ q. let u = unchanged q in let f = u .0 in let t = u .1 in omega arith in
+          absurd (last-changed d .there (first-changed d .before (lastChanged w l) h))
 
 -- two lines with the same first 52 characters, or the same text and number, are one
 pub one-line-of-52 : (u v : List ℕ) → Line u → Line v → take 52 u ≡ take 52 v → u ≡ v

@@ -1,6 +1,6 @@
--- Words of 63 characters: power sums, clean words, marks, lines, their text and number, distance, turning and reversing.
+-- Words of 63 characters: power sums, clean words, marks, lines, their text and number, distance, first and last changed address, turning and reversing.
 use mathlib.Core.Path.{_≡_}
-use mathlib.Core.Bool.{Bool, true, false}
+use mathlib.Core.Bool.{Bool, true, false, cond}
 use mathlib.Core.List.{List, [], _∷_}
 use Prim.Native.Nat.{ℕ, zero, suc, _+_, _-_, _*_, _%_, _<_}
 use lib.Dec.{eqb}
@@ -54,6 +54,29 @@ unfoldable pub distance : List ℕ → List ℕ → ℕ
 distance [] ds = 0
 distance (c ∷ cs) [] = 0
 distance (c ∷ cs) (d ∷ ds) = differs (eqb c d) + distance cs ds
+
+-- what stands for an address where there is none: the one after the last
+abbrev pub nowhere : ℕ
+nowhere = 63
+
+-- the first address at which two words differ, the addresses counted from a
+unfoldable pub firstFrom : ℕ → List ℕ → List ℕ → ℕ
+firstFrom a [] ds = nowhere
+firstFrom a (c ∷ cs) [] = nowhere
+firstFrom a (c ∷ cs) (d ∷ ds) = cond (eqb c d) (firstFrom (suc a) cs ds) a
+
+-- and the last, b being the last before a
+unfoldable pub lastFrom : ℕ → ℕ → List ℕ → List ℕ → ℕ
+lastFrom a b [] ds = b
+lastFrom a b (c ∷ cs) [] = b
+lastFrom a b (c ∷ cs) (d ∷ ds) = lastFrom (suc a) (cond (eqb c d) b a) cs ds
+
+-- the first and the last address at which a word w was changed where l was read for it
+abbrev pub firstChanged : List ℕ → List ℕ → ℕ
+firstChanged w l = firstFrom 0 w l
+
+abbrev pub lastChanged : List ℕ → List ℕ → ℕ
+lastChanged w l = lastFrom 0 nowhere w l
 
 -- f a, f (a + 1), .., n of them
 unfoldable pub listed : (ℕ → ℕ) → ℕ → ℕ → List ℕ

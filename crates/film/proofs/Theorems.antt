@@ -5,7 +5,6 @@ use Prim.Native.Nat.{ℕ, _≤_}
 use native.Mathlib.Omega.{arith}
 use lib.ListN.{length, getD, drop}
 use Rattle.refusal.proofs.Theorems.{one-result, one-reply}
-use Rattle.code.specs.Word.{number, distance}
 use Rattle.field.specs.Promises as Field
 use Rattle.field.proofs.Theorems.{same-sums, same-products, same-quotients}
 use Rattle.encoder.specs.declared.Register.{Register}
@@ -15,6 +14,8 @@ use Rattle.encoder.proofs.Running.{one-stepping, one-asking}
 use Rattle.line.specs.declared.Wanted.{Wanted}
 use Rattle.line.specs.Promises as Line
 use Rattle.line.proofs.Theorems.{one-within}
+use Rattle.scans.specs.Promises as Scans
+use Rattle.scans.proofs.Theorems.{one-choice}
 use Rattle.ring.specs.Ring.{placed}
 use Rattle.ring.specs.Promises as Ring
 use Rattle.ring.proofs.Those.{one-those}
@@ -23,13 +24,14 @@ use Rattle.block.specs.Promises as Block
 use Rattle.block.proofs.Results.{one-read-as, one-encoded-as}
 use Rattle.film.specs.declared.FilmElement.{FilmElement}
 use Rattle.film.specs.declared.FilmLine.{FilmLine}
+use Rattle.film.specs.declared.FilmChoice.{FilmChoice}
 use Rattle.film.specs.declared.FilmList.{FilmList}
 use Rattle.film.specs.declared.FilmRing.{FilmRing}
 use Rattle.film.specs.declared.FilmBlock.{FilmBlock}
 use Rattle.film.specs.declared.FilmRegister.{FilmRegister}
 use Rattle.film.specs.declared.FilmStepped.{FilmStepped}
 use Rattle.film.specs.declared.FilmChecked.{FilmChecked}
-use Rattle.film.specs.Numbers.{elementNumbers, lineNumbers, listNumbers, ringNumbers, blockNumbers, registerOf, checkNumbers}
+use Rattle.film.specs.Numbers.{elementNumbers, lineNumbers, choiceNumbers, listNumbers, ringNumbers, blockNumbers, registerOf, checkNumbers}
 
 -- ---- the field
 
@@ -72,19 +74,25 @@ one-check r a b p q =
 -- ---- reading a line
 
 one-line : (r s : FilmLine) → lineNumbers r ≡ lineNumbers s → r ≡ s
-one-line r s e = ap (λ (l : List ℕ). record { answer = getD l 0 0; distance = getD l 2 0; number = getD l 1 0 }) e
+one-line r s e = ap (λ (l : List ℕ). record { answer = getD l 0 0; distance = getD l 2 0; number = getD l 1 0; first = getD l 3 0; last = getD l 4 0 }) e
 
 pub one-line-read : (w : List ℕ) (t : ℕ) (wanted : Wanted) (old : List ℕ) (r s : FilmLine) (x y : List ℕ)
     → Line.Reads w t wanted old (lineNumbers r) x → Line.Reads w t wanted old (lineNumbers s) y → (r ≡ s) × (x ≡ y)
 unfolding Line.Reads
 one-line-read w t wanted old r s x y p q =
     let e =
-    one-result (Line.readingTests w t wanted (length old)) (Line.ReadAs t w) 2
+    one-result (Line.readingTests w t wanted (length old)) (Line.ReadAs t w) 4
     (λ passed f g x y a b.
     let same : x ≡ y = one-within t w x y (passed .0) (passed .1 .1 .1 .0) (a .0) (b .0) in
-    (a .1 ∙ ap (λ (l : List ℕ). number l ∷ distance w l ∷ []) same ∙ sym (b .1), same))
+    (a .1 ∙ ap (Line.told w) same ∙ sym (b .1), same))
     old (lineNumbers r) (lineNumbers s) x y p q in
     (one-line r s (e .0), e .1)
+
+-- ---- two scans
+
+pub one-better-scan : (x y : List ℕ) (t : ℕ) (r s : FilmChoice) → Scans.Chooses x y t (choiceNumbers r) → Scans.Chooses x y t (choiceNumbers s) → r ≡ s
+one-better-scan x y t r s p q =
+    ap (λ (l : List ℕ). record { answer = getD l 0 0; scan = getD l 1 0 }) (one-choice x y t (choiceNumbers r) (choiceNumbers s) p q)
 
 -- ---- rings
 
@@ -104,18 +112,18 @@ one-ring-list ring t old r s x y p q =
     (one-list r s (e .0), e .1)
 
 one-ring : (r s : FilmRing) → ringNumbers r ≡ ringNumbers s → r ≡ s
-one-ring r s e = ap (λ (l : List ℕ). record { answer = getD l 0 0; start = getD l 1 0; distance = getD l 3 0; number = getD l 2 0 }) e
+one-ring r s e = ap (λ (l : List ℕ). record { answer = getD l 0 0; start = getD l 1 0; distance = getD l 3 0; number = getD l 2 0; first = getD l 4 0; last = getD l 5 0 }) e
 
 pub one-ring-read : (ring : List ℕ) (t : ℕ) (old : List ℕ) (r s : FilmRing) (x y : List ℕ)
     → Ring.ReadsRing ring t old (ringNumbers r) x → Ring.ReadsRing ring t old (ringNumbers s) y → (r ≡ s) × (x ≡ y)
 unfolding Ring.ReadsRing
 one-ring-read ring t old r s x y p q =
     let e =
-    one-result (Ring.readingTests ring t (length old)) (Ring.ReadsAt ring t) 3
+    one-result (Ring.readingTests ring t (length old)) (Ring.ReadsAt ring t) 5
     (λ passed f g x y a b.
     let same : a .start ≡ b .start = ap (λ (l : List ℕ). getD l 0 0) (one-those (a .only) (b .only)) in
     let line : x ≡ y = one-within t (placed (b .start) ring) x y (kept (b .start) .long ring) (passed .1 .1 .1 .0) (rw same at (a .within)) (b .within) in
-    (a .shows ∙ ap₂ (λ (k : ℕ) (l : List ℕ). k ∷ number l ∷ distance (placed k ring) l ∷ []) same line ∙ sym (b .shows), line))
+    (a .shows ∙ ap₂ (λ (k : ℕ) (l : List ℕ). k ∷ Line.told (placed k ring) l) same line ∙ sym (b .shows), line))
     old (ringNumbers r) (ringNumbers s) x y p q in
     (one-ring r s (e .0), e .1)
 

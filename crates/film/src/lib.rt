@@ -7,8 +7,9 @@ ghost use Rattle.line.specs.Promises as Line;
 ghost use Rattle.line.specs.declared.Wanted.the-variants.{Any, Number};
 ghost use Rattle.ring.specs.Promises as Ring;
 ghost use Rattle.block.specs.Promises as Block;
+ghost use Rattle.scans.specs.Promises as Scans;
 ghost use Rattle.film.specs.Version.{version};
-ghost use Rattle.film.specs.Numbers.{elementNumbers, lineNumbers, listNumbers, ringNumbers, blockNumbers, registerOf, checkNumbers};
+ghost use Rattle.film.specs.Numbers.{elementNumbers, lineNumbers, choiceNumbers, listNumbers, ringNumbers, blockNumbers, registerOf, checkNumbers};
 use block::BlockEncoding;
 use block::BlockReading;
 use encoder::CheckAnswer;
@@ -20,9 +21,10 @@ use line::LineReading;
 use line::Wanted;
 use ring::RingListing;
 use ring::RingReading;
+use scans::Choice;
 
 // The library's version: a million times the major number, a thousand times the minor, and the patch. tools/tables writes it from version.txt.
-const VERSION: u32 = 3000001;
+const VERSION: u32 = 4000000;
 
 // The version of the library that is linked.
 #[no_mangle]
@@ -39,12 +41,21 @@ pub struct FilmElement {
     pub value: u8,
 }
 
-// The answer of reading a line, its distance and its number.
+// The answer of reading a line, its distance, its number, and the first and the last changed address.
 #[repr(C)]
 pub struct FilmLine {
     pub answer: u8,
     pub distance: u8,
     pub number: u16,
+    pub first: u8,
+    pub last: u8,
+}
+
+// The answer of choosing between two scans, and the scan: 1 the first, 2 the second, 0 neither.
+#[repr(C)]
+pub struct FilmChoice {
+    pub answer: u8,
+    pub scan: u8,
 }
 
 // The answer of listing a ring, and how many starts are listed.
@@ -54,13 +65,15 @@ pub struct FilmList {
     pub count: u8,
 }
 
-// The answer of reading a ring, the start, the distance and the number.
+// The answer of reading a ring, the start, the distance, the number, and the first and the last changed address of the word at the start.
 #[repr(C)]
 pub struct FilmRing {
     pub answer: u8,
     pub start: u8,
     pub distance: u8,
     pub number: u16,
+    pub first: u8,
+    pub last: u8,
 }
 
 // The answer of reading a block, and the distance.
@@ -148,15 +161,24 @@ fn line_read(given: LineReading) -> FilmLine
     ensures { λ r. ⌜ lineNumbers r ≡ Line.readingNumbers given ⌝ }
 {
     match given {
-        LineReading::Line { number, distance } => FilmLine {
+        LineReading::Line {
+            number,
+            distance,
+            first,
+            last,
+        } => FilmLine {
             answer: 0,
             distance: distance,
             number: number, // at an even place: no padding stands before it
+            first: first,
+            last: last,
         },
         LineReading::Refused(why) => FilmLine {
             answer: refusal::number(why),
             distance: 0,
             number: 0,
+            first: 0,
+            last: 0,
         },
     }
 }
@@ -180,6 +202,22 @@ pub extern "C" fn film_read_line_wanted(
     ensures { λ r. ⌜ Line.Reads (now (word .entry)) radius (Number wanted) (now (out .entry)) (lineNumbers r) (now (out .exit)) ⌝ }
 {
     line_read(line::read_line(word, radius, Wanted::Number(wanted), out))
+}
+
+// Chooses the better of two scans.
+#[no_mangle]
+pub extern "C" fn film_better_scan(first: &[u8], second: &[u8], radius: u8) -> FilmChoice
+    ensures { λ r. ⌜ Scans.Chooses (now (first .entry)) (now (second .entry)) radius (choiceNumbers r) ⌝ }
+{
+    let given = scans::choose_scan(first, second, radius);
+    match given {
+        Choice::First => FilmChoice { answer: 0, scan: 1 },
+        Choice::Second => FilmChoice { answer: 0, scan: 2 },
+        Choice::Neither(why) => FilmChoice {
+            answer: refusal::number(why),
+            scan: 0,
+        },
+    }
 }
 
 // Lists a ring.
@@ -211,17 +249,23 @@ pub extern "C" fn film_read_ring(ring: &[u8], radius: u8, out: &mut [u8]) -> Fil
             start,
             number,
             distance,
+            first,
+            last,
         } => FilmRing {
             answer: 0,
             start: start,
             distance: distance,
             number: number,
+            first: first,
+            last: last,
         },
         RingReading::Refused(why) => FilmRing {
             answer: refusal::number(why),
             start: 0,
             distance: 0,
             number: 0,
+            first: 0,
+            last: 0,
         },
     }
 }

@@ -21,7 +21,7 @@ use Rattle.mender.specs.Mender.{Word, HasSums, Nearest}
 use Rattle.mender.proofs.Finding.{nearest-as}
 use Rattle.line.specs.declared.Wanted.{Wanted}
 use Rattle.line.specs.declared.Wanted.the-variants as W
-use Rattle.line.specs.Promises.{Within, Possible, Carries, Reads}
+use Rattle.line.specs.Promises.{Within, Possible, Carries, told, ReadAs, Reads}
 use Rattle.line.specs.Inside.{IsWanted}
 
 -- ---- the nearest line: a line is a word with the power sums of the marks
@@ -64,27 +64,27 @@ wanted-of (W.Number m) l n e c = e ∙ c
 -- ---- the tests
 
 module _ (w : List ℕ) (t : ℕ) (wanted : Wanted) (old : List ℕ) where
-  pub other-length : (length w ≡ 63 → ⊥) → Reads w t wanted old (1 ∷ 0 ∷ 0 ∷ []) old
+  pub other-length : (length w ≡ 63 → ⊥) → Reads w t wanted old (1 ∷ 0 ∷ 0 ∷ 0 ∷ 0 ∷ []) old
   unfolding Reads
   other-length d = (inr (d, refl), (refl, refl))
 
   module _ (long : length w ≡ 63) where
-    pub other-room : (length old ≡ 63 → ⊥) → Reads w t wanted old (5 ∷ 0 ∷ 0 ∷ []) old
+    pub other-room : (length old ≡ 63 → ⊥) → Reads w t wanted old (5 ∷ 0 ∷ 0 ∷ 0 ∷ 0 ∷ []) old
     unfolding Reads
     other-room d = (inl (long, inr (d, refl)), (refl, refl))
 
     module _ (room : length old ≡ 63) (b : Bool) (range : Tells (Characters w) b) where
-      pub out-of-range : b ≡ false → Reads w t wanted old (2 ∷ 0 ∷ 0 ∷ []) old
+      pub out-of-range : b ≡ false → Reads w t wanted old (2 ∷ 0 ∷ 0 ∷ 0 ∷ 0 ∷ []) old
       unfolding Reads
       out-of-range q = (inl (long, inl (room, inr (range .fails q, refl))), (refl, refl))
 
       module _ (in-range : b ≡ true) where
-        pub radius-over : 5 < t → Reads w t wanted old (3 ∷ 0 ∷ 0 ∷ []) old
+        pub radius-over : 5 < t → Reads w t wanted old (3 ∷ 0 ∷ 0 ∷ 0 ∷ 0 ∷ []) old
         unfolding Reads
         radius-over h = (inl (long, inl (room, inl (range .holds in-range, inr (λ g. omega arith, refl)))), (refl, refl))
 
         module _ (small : t ≤ 5) (p : Bool) (possible : Tells (Possible wanted) p) where
-          pub number-over : p ≡ false → Reads w t wanted old (4 ∷ 0 ∷ 0 ∷ []) old
+          pub number-over : p ≡ false → Reads w t wanted old (4 ∷ 0 ∷ 0 ∷ 0 ∷ 0 ∷ []) old
           unfolding Reads
           number-over q = (inl (long, inl (room, inl (range .holds in-range, inl (small, inr (possible .fails q, refl))))), (refl, refl))
 
@@ -92,7 +92,7 @@ module _ (w : List ℕ) (t : ℕ) (wanted : Wanted) (old : List ℕ) where
             word-here : Word w
             word-here = record { long = long; characters = range .holds in-range }
 
-            pub no-line : m .found ≡ false → Reads w t wanted old (6 ∷ 0 ∷ 0 ∷ []) old
+            pub no-line : m .found ≡ false → Reads w t wanted old (6 ∷ 0 ∷ 0 ∷ 0 ∷ 0 ∷ []) old
             unfolding Reads
             no-line q =
                 (inl (long, inl (room, inl (range .holds in-range, inl (small, inl (possible .holds can, inr (none, refl)))))), (refl, refl))
@@ -112,7 +112,12 @@ module _ (w : List ℕ) (t : ℕ) (wanted : Wanted) (old : List ℕ) where
                   let g = nearest .within here in
                   record { line = nearest .is here; near = omega arith }
 
-              pub other-number : (v : Bool) → Tells (IsWanted wanted n) v → v ≡ false → Reads w t wanted old (7 ∷ 0 ∷ 0 ∷ []) old
+              told-here : n ∷ m .weight ∷ m .first ∷ m .last ∷ [] ≡ told w (m .word)
+              told-here =
+                  ap₂ (λ (x y : ℕ). x ∷ y ∷ m .first ∷ m .last ∷ []) number-here (nearest .apart here)
+                  ∙ ap₂ (λ (x y : ℕ). number (m .word) ∷ distance w (m .word) ∷ x ∷ y ∷ []) (nearest .ends here .from) (nearest .ends here .to)
+
+              pub other-number : (v : Bool) → Tells (IsWanted wanted n) v → v ≡ false → Reads w t wanted old (7 ∷ 0 ∷ 0 ∷ 0 ∷ 0 ∷ []) old
               unfolding Reads
               other-number v tells q =
                   (inl (long, inl (room, inl (range .holds in-range, inl (small, inl (possible .holds can, inl ((m .word, within-here), inr (other, refl))))))), (refl, refl))
@@ -122,7 +127,7 @@ module _ (w : List ℕ) (t : ℕ) (wanted : Wanted) (old : List ℕ) where
                       let same : m .word ≡ r .0 = one-line-near w (m .word) (r .0) t long small (within-here .line) (r .1 .line) (within-here .near) (r .1 .near) in
                       tells .fails q (wanted-of wanted (r .0) n (number-here ∙ ap number same) (r .2))
 
-              pub the-line : (v : Bool) → Tells (IsWanted wanted n) v → v ≡ true → (new : List ℕ) → new ≡ m .word → Reads w t wanted old (0 ∷ n ∷ m .weight ∷ []) new
+              pub the-line : (v : Bool) → Tells (IsWanted wanted n) v → v ≡ true → (new : List ℕ) → new ≡ m .word → Reads w t wanted old (0 ∷ n ∷ m .weight ∷ m .first ∷ m .last ∷ []) new
               unfolding Reads
               the-line v tells q new output = (
                 inl (
@@ -141,8 +146,7 @@ module _ (w : List ℕ) (t : ℕ) (wanted : Wanted) (old : List ℕ) where
                     ),
                   ),
                 ),
-                subst (λ (l : List ℕ). Within t w l × ((n ∷ m .weight ∷ []) ≡ number l ∷ distance w l ∷ [])) (sym output)
-                    (within-here, ap₂ (λ (x y : ℕ). x ∷ y ∷ []) number-here (nearest .apart here)),
+                subst (ReadAs t w (n ∷ m .weight ∷ m .first ∷ m .last ∷ [])) (sym output) (within-here, told-here),
               )
 
 -- ---- the output

@@ -1,21 +1,23 @@
--- The theorems of line reading: it yields the line within the radius, refuses for want of one exactly when there is none, and allows one result.
-use mathlib.Core.Path.{_≡_, refl, sym, ap, ap₂, _∙_}
+-- The theorems of line reading: it yields the line within the radius, refuses for want of one exactly when there is none, tells where the word was changed, and allows one result.
+use mathlib.Core.Path.{_≡_, refl, sym, ap, ap₂, _∙_, subst}
 use mathlib.Core.Logic.{inl, inr}
 use mathlib.Core.List.{List, [], _∷_}
 use Prim.Native.Nat.{ℕ, min, _≤_}
 use native.Mathlib.Omega.{arith}
 use lib.ListN.{length, getD}
-use Rattle.refusal.proofs.Laws.{one-refusal, refusal-positive}
+use Rattle.refusal.proofs.Laws.{one-refusal, refusal-positive, passed}
 use Rattle.refusal.proofs.Theorems.{one-result, same-numbers}
-use Rattle.code.specs.Word.{Characters, Line, number, distance}
-use Rattle.code.proofs.Theorems.{one-line-near}
+use Rattle.code.specs.Word.{Characters, Line, number, distance, nowhere, firstChanged, lastChanged}
+use Rattle.code.proofs.Lines.{line-long}
+use Rattle.code.proofs.Changes.{First, Last}
+use Rattle.code.proofs.Theorems.{one-line-near, first-changed, last-changed, unchanged}
 use Rattle.mender.specs.declared.Mended.{Mended}
 use Rattle.mender.proofs.Theorems.{one-nearest}
 use Rattle.line.specs.declared.Wanted.{Wanted}
 use Rattle.line.specs.declared.Wanted.the-variants as W
 use Rattle.line.specs.declared.LineReading.{LineReading}
 use Rattle.line.specs.declared.LineReading.the-variants as R
-use Rattle.line.specs.Promises.{readingNumbers, Within, Readable, readingTests, ReadAs, Reads}
+use Rattle.line.specs.Promises.{readingNumbers, Within, Readable, readingTests, told, ReadAs, Reads}
 use Rattle.line.specs.Inside.{NearestLine}
 
 -- if a line lies within t it is the only one
@@ -24,23 +26,25 @@ one-within t w l m long small p q = one-line-near w l m t long small (p .line) (
 
 -- the numbers fix the reading
 one-line-reading : (r s : LineReading) → readingNumbers r ≡ readingNumbers s → r ≡ s
-one-line-reading (R.Line n d) (R.Line m e) q = ap₂ R.Line (ap (λ (l : List ℕ). getD l 1 0) q) (ap (λ (l : List ℕ). getD l 2 0) q)
-one-line-reading (R.Line n d) (R.Refused s) q = absurd (refusal-positive s (sym (ap (λ (l : List ℕ). getD l 0 0) q)))
-one-line-reading (R.Refused r) (R.Line m e) q = absurd (refusal-positive r (ap (λ (l : List ℕ). getD l 0 0) q))
+one-line-reading (R.Line n d f t) (R.Line m e g u) q =
+    ap₂ (λ (x y : ℕ). R.Line x y f t) (ap (λ (l : List ℕ). getD l 1 0) q) (ap (λ (l : List ℕ). getD l 2 0) q)
+    ∙ ap₂ (λ (x y : ℕ). R.Line m e x y) (ap (λ (l : List ℕ). getD l 3 0) q) (ap (λ (l : List ℕ). getD l 4 0) q)
+one-line-reading (R.Line n d f t) (R.Refused s) q = absurd (refusal-positive s (sym (ap (λ (l : List ℕ). getD l 0 0) q)))
+one-line-reading (R.Refused r) (R.Line m e g u) q = absurd (refusal-positive r (ap (λ (l : List ℕ). getD l 0 0) q))
 one-line-reading (R.Refused r) (R.Refused s) q = ap R.Refused (one-refusal r s (ap (λ (l : List ℕ). getD l 0 0) q))
 
 module _ (w : List ℕ) (t : ℕ) (wanted : Wanted) where
   one-read-as : length w ≡ 63 → t ≤ 5 → (f g x y : List ℕ) → ReadAs t w f x → ReadAs t w g y → (f ≡ g) × (x ≡ y)
   one-read-as long small f g x y p q =
       let e : x ≡ y = one-within t w x y long small (p .0) (q .0) in
-      (p .1 ∙ ap (λ (l : List ℕ). number l ∷ distance w l ∷ []) e ∙ sym (q .1), e)
+      (p .1 ∙ ap (told w) e ∙ sym (q .1), e)
 
   -- any two results that reading allows are equal
   pub one-reading : (old : List ℕ) (r s : LineReading) (x y : List ℕ) → Reads w t wanted old (readingNumbers r) x → Reads w t wanted old (readingNumbers s) y
       → (r ≡ s) × (x ≡ y)
   unfolding Reads
   one-reading old r s x y p q =
-      let e = one-result (readingTests w t wanted (length old)) (ReadAs t w) 2 (λ passed. one-read-as (passed .0) (passed .1 .1 .1 .0)) old (readingNumbers r) (readingNumbers s) x y p q in
+      let e = one-result (readingTests w t wanted (length old)) (ReadAs t w) 4 (λ passed. one-read-as (passed .0) (passed .1 .1 .1 .0)) old (readingNumbers r) (readingNumbers s) x y p q in
       (one-line-reading r s (e .0), e .1)
 
   -- and so are any two answers, whatever lay in outputs of one length
@@ -49,35 +53,62 @@ module _ (w : List ℕ) (t : ℕ) (wanted : Wanted) where
   unfolding Reads
   same-reading old other r s x y e p q =
       one-line-reading r s
-      (same-numbers (readingTests w t wanted (length old)) (ReadAs t w) 2 (λ passed. one-read-as (passed .0) (passed .1 .1 .1 .0)) old other
+      (same-numbers (readingTests w t wanted (length old)) (ReadAs t w) 4 (λ passed. one-read-as (passed .0) (passed .1 .1 .1 .0)) old other
       (readingNumbers r) (readingNumbers s) x y p (rw (sym e) at q))
 
 -- ---- demand 2, for a word of 63 characters, an output of 63 bytes, a radius of at most 5, and no wanted number
 
 module _ (w : List ℕ) (t : ℕ) (old : List ℕ) (long : length w ≡ 63) (room : length old ≡ 63) (characters : Characters w) (small : t ≤ 5) where
-  -- reading yields the line within t, with its number and its distance
-  pub reads-line : (l : List ℕ) → Within t w l → Reads w t W.Any old (readingNumbers (R.Line (number l) (distance w l))) l
+  -- reading yields the line within t, with its number, its distance, and the first and the last changed address
+  pub reads-line : (l : List ℕ) → Within t w l → Reads w t W.Any old (readingNumbers (R.Line (number l) (distance w l) (firstChanged w l) (lastChanged w l))) l
   unfolding Reads
   reads-line l p =
       (inl (long, inl (room, inl (characters, inl (small, inl (tt, inl ((l, p), inl ((l, p, tt), refl))))))), (p, refl))
 
   -- so where there is one, every result is that
   pub read-within : (l : List ℕ) → Within t w l → (r : LineReading) (x : List ℕ) → Reads w t W.Any old (readingNumbers r) x
-      → (r ≡ R.Line (number l) (distance w l)) × (x ≡ l)
-  read-within l p r x q = one-reading w t W.Any old r (R.Line (number l) (distance w l)) x l q (reads-line l p)
+      → (r ≡ R.Line (number l) (distance w l) (firstChanged w l) (lastChanged w l)) × (x ≡ l)
+  read-within l p r x q = one-reading w t W.Any old r (R.Line (number l) (distance w l) (firstChanged w l) (lastChanged w l)) x l q (reads-line l p)
 
   -- and where there is none it refuses, for want of one, and only there
-  pub reads-none : (Readable t w → ⊥) → Reads w t W.Any old (6 ∷ 0 ∷ 0 ∷ []) old
+  pub reads-none : (Readable t w → ⊥) → Reads w t W.Any old (6 ∷ 0 ∷ 0 ∷ 0 ∷ 0 ∷ []) old
   unfolding Reads
   reads-none none = (inl (long, inl (room, inl (characters, inl (small, inl (tt, inr (none, refl)))))), (refl, refl))
 
-  pub refused-none : (x : List ℕ) → Reads w t W.Any old (6 ∷ 0 ∷ 0 ∷ []) x → Readable t w → ⊥
+  pub refused-none : (x : List ℕ) → Reads w t W.Any old (6 ∷ 0 ∷ 0 ∷ 0 ∷ 0 ∷ []) x → Readable t w → ⊥
   unfolding Reads
   refused-none x q (l, p) =
-      let e = one-result (readingTests w t W.Any (length old)) (ReadAs t w) 2 (λ passed. one-read-as w t W.Any (passed .0) (passed .1 .1 .1 .0)) old
-      (6 ∷ 0 ∷ 0 ∷ []) (0 ∷ number l ∷ distance w l ∷ []) x l q (reads-line l p) in
+      let e = one-result (readingTests w t W.Any (length old)) (ReadAs t w) 4 (λ passed. one-read-as w t W.Any (passed .0) (passed .1 .1 .1 .0)) old
+      (6 ∷ 0 ∷ 0 ∷ 0 ∷ 0 ∷ []) (0 ∷ told w l) x l q (reads-line l p) in
       let z : _≡_ {A = ℕ} 6 0 = ap (λ (k : List ℕ). getD k 0 0) (e .0) in
       omega arith
+
+-- ---- where the word was changed, for every word, every radius, every wanted number and whatever lay in the output: in a success the output differs from
+-- the word at the first changed address and at the last, and nowhere before the one or after the other; where it does not differ both are 63
+
+module _ (w : List ℕ) (t : ℕ) (wanted : Wanted) (old : List ℕ) (n d f g : ℕ) (x : List ℕ) (reads : Reads w t wanted old (readingNumbers (R.Line n d f g)) x) where
+  word-long : length w ≡ 63
+  unfolding Reads
+  word-long = passed (readingTests w t wanted (length old)) 0 (reads .0) refl .0
+
+  line-read : ReadAs t w (n ∷ d ∷ f ∷ g ∷ []) x
+  unfolding Reads
+  line-read = reads .1
+
+  first-is : f ≡ firstChanged w x
+  first-is = ap (λ (l : List ℕ). getD l 2 0) (line-read .1)
+
+  last-is : g ≡ lastChanged w x
+  last-is = ap (λ (l : List ℕ). getD l 3 0) (line-read .1)
+
+  pub read-first : (w ≡ x → ⊥) → First w x f
+  read-first c = subst (First w x) (sym first-is) (first-changed w x word-long (line-long x (line-read .0 .line)) c)
+
+  pub read-last : (w ≡ x → ⊥) → Last w x g
+  read-last c = subst (Last w x) (sym last-is) (last-changed w x word-long (line-long x (line-read .0 .line)) c)
+
+  pub read-unchanged : w ≡ x → (f ≡ nowhere) × (g ≡ nowhere)
+  read-unchanged e = let u = unchanged w x word-long (line-long x (line-read .0 .line)) e in (first-is ∙ u .0, last-is ∙ u .1)
 
 -- any two answers of looking for the nearest line are equal
 pub one-nearest-line : (w : List ℕ) (t : ℕ) (m n : Mended) → NearestLine w t m → NearestLine w t n → m ≡ n

@@ -6,16 +6,16 @@ use lib.ListN.{length}
 use Rattle.refusal.specs.declared.Refusal.the-variants.{InputLength, OutputLength, ValueOver, RadiusOver, NumberOver, NoLine, OtherNumber}
 use Rattle.refusal.specs.Number.{numberOf}
 use Rattle.refusal.specs.Promise.{Test, _else_, Promise}
-use Rattle.code.specs.Word.{Characters, Line, number, distance}
+use Rattle.code.specs.Word.{Characters, Line, number, distance, firstChanged, lastChanged}
 use Rattle.line.specs.declared.Wanted.{Wanted}
 use Rattle.line.specs.declared.Wanted.the-variants as W
 use Rattle.line.specs.declared.LineReading.{LineReading}
 use Rattle.line.specs.declared.LineReading.the-variants as R
 
--- the numbers of a reading: the answer, the line's number and its distance from the input
+-- the numbers of a reading: the answer, the line's number, its distance from the input, and the first and the last changed address
 abbrev pub readingNumbers : LineReading → List ℕ
-readingNumbers (R.Line number distance) = 0 ∷ number ∷ distance ∷ []
-readingNumbers (R.Refused r) = numberOf r ∷ 0 ∷ 0 ∷ []
+readingNumbers (R.Line number distance first last) = 0 ∷ number ∷ distance ∷ first ∷ last ∷ []
+readingNumbers (R.Refused r) = numberOf r ∷ 0 ∷ 0 ∷ 0 ∷ 0 ∷ []
 
 -- l is a line within t of w
 pub record Within (t : ℕ) (w l : List ℕ) : Type 0 where
@@ -51,9 +51,13 @@ readingTests w t wanted room =
     ∷ (Fitting t w wanted else OtherNumber)
     ∷ []
 
--- the output gets the line within the radius, and the fields are its number and its distance
+-- what is told of a line l that is read from w: its number, its distance, and the first and the last changed address
+abbrev pub told : List ℕ → List ℕ → List ℕ
+told w l = number l ∷ distance w l ∷ firstChanged w l ∷ lastChanged w l ∷ []
+
+-- the output gets the line within the radius, and the fields are what is told of it
 abbrev pub ReadAs : ℕ → List ℕ → List ℕ → List ℕ → Type 0
-ReadAs t w fields l = Within t w l × (fields ≡ number l ∷ distance w l ∷ [])
+ReadAs t w fields l = Within t w l × (fields ≡ told w l)
 
 unfoldable pub Reads : List ℕ → ℕ → Wanted → List ℕ → List ℕ → List ℕ → Type 0
-Reads w t wanted old numbers new = Promise (readingTests w t wanted (length old)) (ReadAs t w) 2 old numbers new
+Reads w t wanted old numbers new = Promise (readingTests w t wanted (length old)) (ReadAs t w) 4 old numbers new

@@ -15,8 +15,14 @@ pub enum Wanted {
     Number(u16),
 }
 
+// The line's number, its distance, and the first and the last changed address; or why there is none.
 pub enum LineReading {
-    Line { number: u16, distance: u8 },
+    Line {
+        number: u16,
+        distance: u8,
+        first: u8,
+        last: u8,
+    },
     Refused(Refusal),
 }
 
@@ -52,6 +58,8 @@ pub fn read_line(word: &[u8], radius: u8, wanted: Wanted, output: &mut [u8]) -> 
     LineReading::Line {
         number: number,
         distance: found.weight,
+        first: found.first,
+        last: found.last,
     }
 }
 

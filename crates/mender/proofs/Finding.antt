@@ -17,13 +17,14 @@ use Rattle.field.proofs.Laws
 use Rattle.polynomial.specs.Sums.{weight}
 use Rattle.polynomial.specs.Polynomial.{polyAt, over}
 use Rattle.code.specs.Word.{Characters, powerSum, Clean, added, distance}
-use Rattle.code.specs.Inside.{PowerSums}
+use Rattle.code.specs.Inside.{PowerSums, Ends}
 use Rattle.code.proofs.Words.{characters-below, length-added, added-get, characters-added}
 use Rattle.code.proofs.Distances.{distance-weight, distance-added}
 use Rattle.code.proofs.Sums.{powerSum-added}
 use Rattle.mender.specs.declared.Mended.{Mended}
 use Rattle.mender.specs.Mender.{Fits, MendsTo, Mends, Word, Nearest, HasSums}
 use Rattle.mender.specs.Inside.{mixed, coef, valueOf, ValuedFrom, Agree, Nothing}
+use Rattle.mender.specs.Found.{Repaired}
 use Rattle.mender.proofs.Fitting.{Least, combines-more, value-is}
 
 pub true-false : true ≡ false → ⊥
@@ -80,8 +81,11 @@ found-none s c e m n h =
     record {
       fits = λ t. absurd (true-false (sym t ∙ n .not-found));
       weighs = λ t. absurd (true-false (sym t ∙ n .not-found));
+      ends = λ t. absurd (true-false (sym t ∙ n .not-found));
       none = λ t. h;
       no-weight = λ t. n .no-weight;
+      no-first = λ t. n .no-first;
+      no-last = λ t. n .no-last;
       no-word = λ t. n .no-word;
     }
 
@@ -108,8 +112,9 @@ module _ (s : List ℕ) (c e n r : ℕ) (p : List ℕ) (out : Mended) (b : Told 
           y .sums k i ∙ ap (powerSum (58 + k)) (sym (only-word s c e n r p b a w v u y))
           ∙ sym (sums .sum-at k (let g = b .few in omega arith))))
 
-      pub found-word : m ≤ e → f ≡ true → MendsTo s c e (record { found = true; weight = m; word = w })
-      found-word y q =
+      pub found-word : (i j : ℕ) → Ends (replicate 63 0) w i j → m ≤ e → f ≡ true
+          → MendsTo s c e (record { found = true; weight = m; first = i; last = j; word = w })
+      found-word i j ends y q =
           record {
             fits = λ _. record {
               long = v .long;
@@ -118,21 +123,13 @@ module _ (s : List ℕ) (c e n r : ℕ) (p : List ℕ) (out : Mended) (b : Told 
               sums = λ k i. agrees .holds q k i ∙ sums .sum-at k (let g = b .few in omega arith);
             };
             weighs = λ _. weighs;
+            ends = λ _. ends;
             none = λ z. absurd (true-false z);
             no-weight = λ z. absurd (true-false z);
+            no-first = λ z. absurd (true-false z);
+            no-last = λ z. absurd (true-false z);
             no-word = λ z. absurd (true-false z);
           }
-
--- a word that fits is what is found
-pub found-fits : (s : List ℕ) (c e : ℕ) (m : ℕ) (w : List ℕ) → Fits s c e w → m ≡ weight w → MendsTo s c e (record { found = true; weight = m; word = w })
-found-fits s c e m w f g =
-    record {
-      fits = λ _. f;
-      weighs = λ _. g;
-      none = λ z. absurd (true-false z);
-      no-weight = λ z. absurd (true-false z);
-      no-word = λ z. absurd (true-false z);
-    }
 
 -- ---- mend
 
@@ -154,8 +151,11 @@ module _ (P : List ℕ → Type 0) (w : List ℕ) (e : ℕ) (m : Mended) (n : No
         is = λ t. absurd (true-false (sym t ∙ n .not-found));
         apart = λ t. absurd (true-false (sym t ∙ n .not-found));
         within = λ t. absurd (true-false (sym t ∙ n .not-found));
+        ends = λ t. absurd (true-false (sym t ∙ n .not-found));
         none = λ t. h;
         no-weight = λ t. n .no-weight;
+        no-first = λ t. n .no-first;
+        no-last = λ t. n .no-last;
         no-word = λ t. n .no-word;
       }
 
@@ -193,21 +193,23 @@ module _ (w u s d : List ℕ) (e : ℕ) (b : Bool) (long : length w ≡ 63) (ran
             ∙ Laws.sum-undo (powerSum (58 + k) w) (getD s k 0);
       }
 
-  pub none-near : (m o : Mended) → MendsTo d 11 e m → m .found ≡ false → Nothing o → Nearest (HasSums s) w e o
-  none-near m o f q n = nearest-none (HasSums s) w e o n (λ y v p l. f .none q (added w v) (to-fits v p l))
+  pub none-near : (m : Mended) → ((x : List ℕ) → Fits d 11 e x → ⊥) → Nothing m → Nearest (HasSums s) w e m
+  none-near m f n = nearest-none (HasSums s) w e m n (λ y v p l. f (added w v) (to-fits v p l))
 
-  pub one-near : (m : Mended) (r : List ℕ) → MendsTo d 11 e m → m .found ≡ true → r ≡ added w (m .word)
-      → Nearest (HasSums s) w e (record { found = true; weight = m .weight; word = r })
-  one-near m r f q g =
-      let x : Fits d 11 e (m .word) = f .fits q in
+  pub one-near : (m : Mended) → m .found ≡ true → Repaired d w e m → Nearest (HasSums s) w e m
+  one-near m q r =
+      let x : Fits d 11 e (r .errors) = r .fits in
       record {
         of-word = λ _. record { long = long; characters = range .holds in-range };
-        is = λ _. subst (HasSums s) (sym g) (to-sums (m .word) x);
-        apart = λ _. f .weighs q ∙ sym (ap (distance w) g ∙ distance-added w (m .word) (long ∙ sym (x .long)));
-        within = λ _. le-trans (le-of-eq (f .weighs q)) (x .light);
-        none = λ z. absurd (true-false z);
-        no-weight = λ z. absurd (true-false z);
-        no-word = λ z. absurd (true-false z);
+        is = λ _. subst (HasSums s) (sym (r .word)) (to-sums (r .errors) x);
+        apart = λ _. r .weighs ∙ sym (ap (distance w) (r .word) ∙ distance-added w (r .errors) (long ∙ sym (x .long)));
+        within = λ _. le-trans (le-of-eq (r .weighs)) (x .light);
+        ends = λ _. r .ends;
+        none = λ z. absurd (true-false (sym q ∙ z));
+        no-weight = λ z. absurd (true-false (sym q ∙ z));
+        no-first = λ z. absurd (true-false (sym q ∙ z));
+        no-last = λ z. absurd (true-false (sym q ∙ z));
+        no-word = λ z. absurd (true-false (sym q ∙ z));
       }
 
 -- ---- one property for another that holds of the same words
@@ -220,8 +222,11 @@ nearest-as P Q w e m to from n =
       is = λ t. to (m .word) (n .is t);
       apart = n .apart;
       within = n .within;
+      ends = n .ends;
       none = λ t y v q l. n .none t y v (from v q) l;
       no-weight = n .no-weight;
+      no-first = n .no-first;
+      no-last = n .no-last;
       no-word = n .no-word;
     }
 

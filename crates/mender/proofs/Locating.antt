@@ -78,8 +78,10 @@ module _ (h : Eleven) (c e : ℕ) (x : List ℕ) (r : ℕ) (out : Mended) (b : (
         pub other-sums : a ≡ false → Nothing out → MendsTo (eleven h) c e out
         other-sums q n = found-other (eleven h) c e (min (c - c / 2) 5) r p out told least (y .word) (here .valued) (y .weight) (here .weighs) t sums a same q n
 
-        pub this-word : y .weight ≤ e → a ≡ true → MendsTo (eleven h) c e (record { found = true; weight = y .weight; word = y .word })
-        this-word g q = found-word (eleven h) c e (min (c - c / 2) 5) r p out told least (y .word) (here .valued) (y .weight) (here .weighs) t sums a same g q
+        pub this-word : y .weight ≤ e → a ≡ true → MendsTo (eleven h) c e (record { found = true; weight = y .weight; first = y .first; last = y .last; word = y .word })
+        this-word g q =
+            found-word (eleven h) c e (min (c - c / 2) 5) r p out told least (y .word) (here .valued) (y .weight) (here .weighs) t sums a same (y .first) (y .last)
+            (here .ends) g q
 
 -- the coefficients of the first row combine the windows to 0
 pub locator-kills : (h : Eleven) (c e : ℕ) (x : List ℕ) (r : ℕ) (p s : List ℕ) (n : ℕ) → RowsFrom (h .first) e (min (c - c / 2) 5) x → FirstRow x r → r < 6

@@ -20,11 +20,12 @@ use Rattle.lanes.specs.Lanes.{pack, lane}
 use Rattle.lanes.proofs.Laws.{lane-lt, lane-after, pack-same, pack-more, pack-last, pack-equal, pack-lanes, lane-pack}
 use Rattle.polynomial.specs.Sums.{weight}
 use Rattle.code.specs.Word.{Characters, added}
-use Rattle.code.specs.Inside.{PowerSums}
+use Rattle.code.specs.Inside.{PowerSums, Ends}
 use Rattle.code.specs.declared.Eleven.{Eleven}
 use Rattle.code.specs.Held.{eleven, lowered}
 use Rattle.code.proofs.Words.{listed-get, length-added, added-get}
 use Rattle.code.proofs.Sums.{powerSum-lt}
+use Rattle.code.proofs.Changes.{ends-none, ends-one, ends-added}
 use Rattle.code.proofs.Holding.{eleven-first, eleven-last, eleven-long, eleven-characters}
 use Rattle.mender.specs.declared.Mended.{Mended}
 use Rattle.mender.specs.declared.Single.{Single}
@@ -32,7 +33,7 @@ use Rattle.mender.specs.Mender.{Fits, MendsTo, Mends, Nearest, HasSums}
 use Rattle.mender.specs.Inside.{Nothing}
 use Rattle.mender.specs.Found.{lone, OneError, ElementsTo, Clear, Repairs, sixth}
 use Rattle.mender.proofs.OneError.{zero-get, lone-long, lone-here, lone-other, lone-weight, weight-nothing, sums-nothing}
-use Rattle.mender.proofs.Finding.{true-false, found-none, found-fits, none-near, one-near, nearest-none, mended}
+use Rattle.mender.proofs.Finding.{true-false, found-none, none-near, one-near, nearest-none, mended}
 
 -- ---- whether the first c sums are elements
 
@@ -57,8 +58,11 @@ mends-same s t c e m h f =
     record {
       fits = λ q. let g = f .fits q in record { long = g .long; characters = g .characters; light = g .light; sums = λ k l. h k l ∙ g .sums k l };
       weighs = f .weighs;
+      ends = f .ends;
       none = λ q w g. f .none q w (record { long = g .long; characters = g .characters; light = g .light; sums = λ k l. sym (h k l) ∙ g .sums k l });
       no-weight = f .no-weight;
+      no-first = f .no-first;
+      no-last = f .no-last;
       no-word = f .no-word;
     }
 
@@ -107,33 +111,38 @@ nothing-fits s e z =
 
 -- ---- the ways out of the repair
 
-pub repairs-none : (s w : List ℕ) (e : ℕ) (m : Mended) (b : Bool) → Tells (Clear s) b → b ≡ true → m .found ≡ true → m .weight ≡ 0 → m .word ≡ added w (replicate 63 0) → Repairs s w e m
-repairs-none s w e m b t q f n r =
+-- the word is repaired by any errors that fit, and is changed where they are
+repairs-by : (s w r x : List ℕ) (e k i j : ℕ) → length w ≡ 63 → Fits s 11 e x → k ≡ weight x → r ≡ added w x → Ends (replicate 63 0) x i j
+    → Repairs s w e (record { found = true; weight = k; first = i; last = j; word = r })
+repairs-by s w r x e k i j long fits weighs g ends =
     record {
-      repaired = λ _. record { errors = replicate 63 0; fits = nothing-fits s e (t .holds q); weighs = n ∙ sym (weight-nothing 63); word = r };
-      none = λ z. absurd (true-false (sym f ∙ z));
-      no-weight = λ z. absurd (true-false (sym f ∙ z));
-      no-word = λ z. absurd (true-false (sym f ∙ z));
+      repaired = λ _. record { errors = x; fits = fits; weighs = weighs; word = g; ends = ends-added w x r i j long (fits .long) g ends };
+      none = λ z. absurd (true-false z);
+      no-weight = λ z. absurd (true-false z);
+      no-first = λ z. absurd (true-false z);
+      no-last = λ z. absurd (true-false z);
+      no-word = λ z. absurd (true-false z);
     }
+
+pub repairs-none : (s w r : List ℕ) (e : ℕ) (b : Bool) → length w ≡ 63 → Tells (Clear s) b → b ≡ true → r ≡ added w (replicate 63 0)
+    → Repairs s w e (record { found = true; weight = 0; first = 63; last = 63; word = r })
+repairs-none s w r e b long t q g = repairs-by s w r (replicate 63 0) e 0 63 63 long (nothing-fits s e (t .holds q)) (sym (weight-nothing 63)) g ends-none
 
 lighter : (s : List ℕ) (e : ℕ) (w : List ℕ) → 0 < e → Fits s 11 1 w → Fits s 11 e w
 lighter s e w h f = record { long = f .long; characters = f .characters; light = (let l = f .light in omega arith); sums = f .sums }
 
-pub repairs-one : (s w r : List ℕ) (e : ℕ) (o : Single) → 0 < e → OneError s o → o .found ≡ true → r ≡ added w (lone (o .address) (o .value))
-    → Repairs s w e (record { found = true; weight = 1; word = r })
-repairs-one s w r e o h a q g =
-    record {
-      repaired = λ _.
-          record {
-            errors = lone (o .address) (o .value);
-            fits = lighter s e (lone (o .address) (o .value)) h (a .fits q);
-            weighs = sym (lone-weight (o .address) (o .value) (a .inside q) (a .some q));
-            word = g;
-          };
-      none = λ z. absurd (true-false z);
-      no-weight = λ z. absurd (true-false z);
-      no-word = λ z. absurd (true-false z);
-    }
+-- one error is the first and the last
+lone-ends : (a v : ℕ) → a < 63 → 0 < v → Ends (replicate 63 0) (lone a v) a a
+unfolding lone
+lone-ends a v h p = ends-one (replicate 63 0) a v 63 63 refl h (λ i _. zero-get 63 i) (λ z. omega arith) ends-none refl
+
+pub repairs-one : (s w r : List ℕ) (e : ℕ) (o : Single) → length w ≡ 63 → 0 < e → OneError s o → o .found ≡ true → r ≡ added w (lone (o .address) (o .value))
+    → Repairs s w e (record { found = true; weight = 1; first = o .address; last = o .address; word = r })
+repairs-one s w r e o long h a q g =
+    let b : ℕ = o .address in
+    let v : ℕ = o .value in
+    repairs-by s w r (lone b v) e 1 b b long (lighter s e (lone b v) h (a .fits q)) (sym (lone-weight b v (a .inside q) (a .some q))) g
+    (lone-ends b v (a .inside q) (a .some q))
 
 pub repairs-not : (s w : List ℕ) (e : ℕ) (f m : Mended) → MendsTo s 11 e f → f .found ≡ false → Nothing m → Repairs s w e m
 repairs-not s w e f m a q n =
@@ -141,18 +150,14 @@ repairs-not s w e f m a q n =
       repaired = λ t. absurd (true-false (sym t ∙ n .not-found));
       none = λ _. a .none q;
       no-weight = λ _. n .no-weight;
+      no-first = λ _. n .no-first;
+      no-last = λ _. n .no-last;
       no-word = λ _. n .no-word;
     }
 
-pub repairs-more : (s w r : List ℕ) (e : ℕ) (f : Mended) → MendsTo s 11 e f → f .found ≡ true → r ≡ added w (f .word)
-    → Repairs s w e (record { found = true; weight = f .weight; word = r })
-repairs-more s w r e f a q g =
-    record {
-      repaired = λ _. record { errors = f .word; fits = a .fits q; weighs = a .weighs q; word = g };
-      none = λ z. absurd (true-false z);
-      no-weight = λ z. absurd (true-false z);
-      no-word = λ z. absurd (true-false z);
-    }
+pub repairs-more : (s w r : List ℕ) (e : ℕ) (f : Mended) → length w ≡ 63 → MendsTo s 11 e f → f .found ≡ true → r ≡ added w (f .word)
+    → Repairs s w e (record { found = true; weight = f .weight; first = f .first; last = f .last; word = r })
+repairs-more s w r e f long a q g = repairs-by s w r (f .word) e (f .weight) (f .first) (f .last) long (a .fits q) (a .weighs q) g (a .ends q)
 
 -- ---- one character changed
 
@@ -181,23 +186,10 @@ pub near : (w u s d : List ℕ) (e : ℕ) (b : Bool) (m : Mended) → length w �
 near w u s d e b m l t q us ls ed r = pick (m .found) refl
   where
     pick : (f : Bool) → m .found ≡ f → Nearest (HasSums s) w e m
-    pick true z =
-        let y = r .repaired z in
-        let n = one-near w u s d e b l t q us ls ed (record { found = true; weight = m .weight; word = y .errors }) (m .word) (found-fits d 11 e (m .weight) (y .errors) (y .fits) (y .weighs)) refl (y .word) in
-        record {
-          of-word = λ _. n .of-word refl;
-          is = λ _. n .is refl;
-          apart = λ _. n .apart refl;
-          within = λ _. n .within refl;
-          none = λ c. absurd (true-false (sym z ∙ c));
-          no-weight = λ c. absurd (true-false (sym z ∙ c));
-          no-word = λ c. absurd (true-false (sym z ∙ c));
-        }
+    pick true z = one-near w u s d e b l t q us ls ed m z (r .repaired z)
     pick false z =
-        let o : Nothing m = record { not-found = z; no-weight = r .no-weight z; no-word = r .no-word z } in
-        none-near w u s d e b l t q us ls ed m m
-        (record { fits = λ c. absurd (true-false (sym c ∙ z)); weighs = λ c. absurd (true-false (sym c ∙ z)); none = λ _. r .none z; no-weight = λ _. r .no-weight z; no-word = λ _. r .no-word z })
-        z o
+        none-near w u s d e b l t q us ls ed m (r .none z)
+        (record { not-found = z; no-weight = r .no-weight z; no-first = r .no-first z; no-last = r .no-last z; no-word = r .no-word z })
 
 pub not-wanted : (w s : List ℕ) (e : ℕ) (m : Mended) (b : Bool) → Tells (ElementsTo s 11) b → b ≡ false → Nothing m → Nearest (HasSums s) w e m
 not-wanted w s e m b t q n =
@@ -275,6 +267,10 @@ module _ (s : List ℕ) (c e x y : ℕ) (m : Mended) (b : Bool) (ex : x ≡ min 
 -- one error lies inside the word
 pub one-inside : (s : List ℕ) (o : Single) → OneError s o → o .found ≡ true → o .address < 63
 one-inside s o a q = a .inside q
+
+-- and so its address is a byte
+pub address-fits : (s : List ℕ) (o : Single) → OneError s o → o .found ≡ true → o .address < 256
+address-fits s o a q = let h = a .inside q in omega arith
 
 -- what the nearest word asks of its parts
 pub wanted-near : (w u s d : List ℕ) (h : Eleven) (e x : ℕ) (b f : Bool) (m : Mended) → length w ≡ 63 → Tells (Characters w) b → b ≡ true → PowerSums w u → length s ≡ 11

@@ -1,5 +1,6 @@
 -- The values at the roots alone: from one set bit of the roots to the next, every place between has no value.
 use mathlib.Core.Path.{_≡_, refl, sym, ap, ap₂, _∙_, subst}
+use mathlib.Core.Bool.{Bool, cond}
 use mathlib.Core.Logic.{_⊎_, ⊎-elim}
 use mathlib.Core.List.{List}
 use Prim.Native.Nat.{ℕ, zero, suc, min, _+_, _-_, _*_, _/_, _%_, _^_, _<_, _≤_}
@@ -8,8 +9,8 @@ use native.Mathlib.Omega.{arith}
 use lib.Count.{trailingZeros, under, trailing-le}
 use lib.Pow.{shr-shr, shr-le, field, mod-mod-pow}
 use lib.ListN.{length, getD, replicate, set, length-set, List·getD-eq-default}
-use lib.Seq.{getD-set-same, getD-set-other}
-use borrow.Author.Tests.{ne-eqb}
+use lib.Seq.{ext-getD, getD-set-same, getD-set-other}
+use borrow.Author.Tests.{eq-eqb, ne-eqb}
 use Rattle.numbers.proofs.Cases.{le-or-lt, same-or-not, pos-of-not-zero}
 use Rattle.numbers.proofs.Bits.{halved}
 use Rattle.field.specs.Field.{product, α, power}
@@ -21,12 +22,14 @@ use Rattle.polynomial.specs.Sums.{weight, nonzero}
 use Rattle.polynomial.specs.Polynomial.{polyAt}
 use Rattle.planes.specs.Roots.{RootsOf}
 use Rattle.planes.proofs.Theorems.{set-root, clear-other}
+use Rattle.code.specs.Inside.{Ends}
 use Rattle.code.proofs.Distances.{weight-le}
+use Rattle.code.proofs.Changes.{ends-none, ends-one, ends-more}
 use Rattle.mender.specs.declared.Pattern.{Pattern}
 use Rattle.mender.specs.Inside.{valueOf}
 use Rattle.mender.specs.Found.{RootFrom, Patterned}
 use Rattle.mender.specs.Rows.{Coefficients}
-use Rattle.mender.specs.Values.{rootAfter, rootAt, numeratorAt, denominatorAt, numeratorOf, denominatorOf, quotientAt, FractionIn, QuotientsAhead, QuotientNext, Placed, Kills, inverseOrNone}
+use Rattle.mender.specs.Values.{rootAfter, rootAt, numeratorAt, denominatorAt, numeratorOf, denominatorOf, quotientAt, FractionIn, QuotientsAhead, QuotientNext, Placed, lastOf, Kills, inverseOrNone}
 use Rattle.mender.specs.declared.Ahead.{Ahead}
 use Rattle.mender.proofs.OneError.{zero-get, weight-set, weight-nothing, nonzero-pos}
 use Rattle.mender.proofs.Locating.{coefficients-small}
@@ -133,7 +136,7 @@ module _ (roots from rest : ℕ) (h : from ≤ 63) (e : rest ≡ (roots % 922337
 
 -- ---- the roots below l have their values, and no other place has one
 
-pub record PlacedTo (roots f n : ℕ) (w : List ℕ) (count values left l : ℕ) : Type 0 where
+pub record PlacedTo (roots f n : ℕ) (w : List ℕ) (count first last values left l : ℕ) : Type 0 where
   pub few : n ≤ 5
   pub ahead : QuotientsAhead f n roots l (record { values = values; left = left })
   pub most : l ≤ 63
@@ -143,8 +146,9 @@ pub record PlacedTo (roots f n : ℕ) (w : List ℕ) (count values left l : ℕ)
   pub clear : (k : ℕ) → k < 63 → roots / 2 ^ k % 2 ≡ 0 → getD w (62 - k) 0 ≡ 0
   pub later : (k : ℕ) → l ≤ k → k < 63 → getD w (62 - k) 0 ≡ 0
   pub weighs : count ≡ weight w
+  pub ends : Ends (replicate 63 0) w first last
 
-pub placed-none : (r f n l : ℕ) → n ≤ 5 → RootFrom r 0 l → PlacedTo r f n (replicate 63 0) 0 0 0 l
+pub placed-none : (r f n l : ℕ) → n ≤ 5 → RootFrom r 0 l → PlacedTo r f n (replicate 63 0) 0 63 63 0 0 l
 placed-none r f n l h a =
     record {
       few = h;
@@ -156,14 +160,25 @@ placed-none r f n l h a =
       clear = λ k b z. zero-get 63 (62 - k);
       later = λ k b g. zero-get 63 (62 - k);
       weighs = sym (weight-nothing 63);
+      ends = ends-none;
     }
 
 nothing-counts : nonzero 0 ≡ 0
 unfolding nonzero
 nothing-counts = refl
 
-module _ (r f n : ℕ) (w : List ℕ) (count values left l : ℕ) (y : Ahead) (l′ : ℕ) (h : l < 63) (a : PlacedTo r f n w count values left l)
-    (q : QuotientNext f n r l y) (next : RootFrom r (l + 1) l′) where
+-- the last of some addresses and one before them all
+
+pub last-none : (last address : ℕ) → last ≡ 63 → address ≡ lastOf last address
+unfolding lastOf
+last-none last address e = sym (ap (λ (b : Bool). cond b address last) (eq-eqb last 63 e))
+
+pub last-some : (last address : ℕ) → (last ≡ 63 → ⊥) → last ≡ lastOf last address
+unfolding lastOf
+last-some last address d = sym (ap (λ (b : Bool). cond b address last) (ne-eqb last 63 d))
+
+module _ (r f n : ℕ) (w : List ℕ) (count first last values left l : ℕ) (y : Ahead) (l′ : ℕ) (h : l < 63)
+    (a : PlacedTo r f n w count first last values left l) (q : QuotientNext f n r l y) (next : RootFrom r (l + 1) l′) where
   v : ℕ
   v = y .values % 64
 
@@ -191,8 +206,9 @@ module _ (r f n : ℕ) (w : List ℕ) (count values left l : ℕ) (y : Ahead) (l
         at = λ j b. sym (lane-suc (y .values) j) ∙ q .ahead .at (suc j) (omega arith) ∙ ap (λ (m : ℕ). quotientAt f n (power α (rootAt r m j))) (sym e);
       }
 
-  turned : (count′ : ℕ) → count′ ≡ weight (set w (62 - l) v) → PlacedTo r f n (set w (62 - l) v) count′ (y .values / 64) (y .left - 1) l′
-  turned count′ e =
+  turned : (count′ first′ last′ : ℕ) → count′ ≡ weight (set w (62 - l) v) → Ends (replicate 63 0) (set w (62 - l) v) first′ last′
+      → PlacedTo r f n (set w (62 - l) v) count′ first′ last′ (y .values / 64) (y .left - 1) l′
+  turned count′ first′ last′ e ends =
       let m : l′ ≤ 63 = next .most in
       let g : l + 1 ≤ l′ = next .least in
       record {
@@ -211,19 +227,52 @@ module _ (r f n : ℕ) (w : List ℕ) (count values left l : ℕ) (y : Ahead) (l
             other k b (λ q. let o : r / 2 ^ k % 2 ≡ 1 = subst (λ (i : ℕ). r / 2 ^ i % 2 ≡ 1) (sym q) (a .here h) in omega arith) ∙ a .clear k b z;
         later = λ k b c. other k c (λ q. omega arith) ∙ a .later k (omega arith) c;
         weighs = e;
+        ends = ends;
       }
 
-  pub turn-some : (count′ : ℕ) → (y .values % 64 ≡ 0 → ⊥) → count′ ≡ count + 1
-      → PlacedTo r f n (set w (62 - l) (y .values % 64)) count′ (y .values / 64) (y .left - 1) l′
-  unfolding v
-  turn-some count′ d e = turned count′ (e ∙ sym (weight-is ∙ ap (λ (m : ℕ). count + m) (nonzero-pos v (pos-of-not-zero v d))))
+  -- nothing stands at the address of l, nor before it
+  none-before : (i : ℕ) → i ≤ 62 - l → getD w i 0 ≡ 0
+  none-before i b = ap (λ (j : ℕ). getD w j 0) (back i (omega arith)) ∙ a .later (62 - i) (omega arith) (omega arith)
+    where
+      back : (i : ℕ) → i ≤ 62 → i ≡ 62 - (62 - i)
+      back i b = omega arith
 
-  pub turn-none : (count′ : ℕ) → y .values % 64 ≡ 0 → count′ ≡ count
-      → PlacedTo r f n (set w (62 - l) (y .values % 64)) count′ (y .values / 64) (y .left - 1) l′
-  unfolding v
-  turn-none count′ z e = turned count′ (e ∙ sym (weight-is ∙ ap (λ (m : ℕ). count + nonzero m) z ∙ ap (λ (m : ℕ). count + m) nothing-counts ∙ add-zero count))
+  -- what is not 0 stands before all others
+  some-ends : (last′ : ℕ) → (v ≡ 0 → ⊥) → last′ ≡ lastOf last (62 - l) → Ends (replicate 63 0) (set w (62 - l) v) (62 - l) last′
+  some-ends last′ d e =
+      ⊎-elim
+      (λ (t : last ≡ 63).
+      subst (Ends (replicate 63 0) (set w (62 - l) v) (62 - l)) (last-none last (62 - l) t ∙ sym e)
+      (ends-one w (62 - l) v first last (a .long) (omega arith) none-before d (a .ends) t))
+      (λ (t : last ≡ 63 → ⊥).
+      subst (Ends (replicate 63 0) (set w (62 - l) v) (62 - l)) (last-some last (62 - l) t ∙ sym e)
+      (ends-more w (62 - l) v first last (a .long) (omega arith) none-before d (a .ends) t))
+      (same-or-not last 63)
 
-module _ (r f n : ℕ) (w : List ℕ) (count values left l : ℕ) (a : PlacedTo r f n w count values left l) where
+  -- and 0 changes nothing
+  zero-same : v ≡ 0 → w ≡ set w (62 - l) v
+  zero-same z =
+      ext-getD 0 w (set w (62 - l) v) (sym (length-set w (62 - l) v))
+      (λ i b.
+      ⊎-elim
+      (λ (q : i ≡ 62 - l).
+      subst (λ (j : ℕ). getD w j 0 ≡ getD (set w (62 - l) v) j 0) (sym q) (none-before (62 - l) (omega arith) ∙ sym (same ∙ z)))
+      (λ (d : i ≡ 62 - l → ⊥). sym (getD-set-other w (62 - l) i v 0 d)) (same-or-not i (62 - l)))
+
+  pub turn-some : (count′ first′ last′ seen : ℕ) → (y .values % 64 ≡ 0 → ⊥) → seen ≡ lastOf last (62 - l) → count′ ≡ count + 1 → first′ ≡ 62 - l → last′ ≡ seen
+      → PlacedTo r f n (set w (62 - l) (y .values % 64)) count′ first′ last′ (y .values / 64) (y .left - 1) l′
+  unfolding v
+  turn-some count′ first′ last′ seen d g e i j =
+      turned count′ first′ last′ (e ∙ sym (weight-is ∙ ap (λ (m : ℕ). count + m) (nonzero-pos v (pos-of-not-zero v d)))) (rw i (some-ends last′ d (j ∙ g)))
+
+  pub turn-none : (count′ first′ last′ : ℕ) → y .values % 64 ≡ 0 → count′ ≡ count → first′ ≡ first → last′ ≡ last
+      → PlacedTo r f n (set w (62 - l) (y .values % 64)) count′ first′ last′ (y .values / 64) (y .left - 1) l′
+  unfolding v
+  turn-none count′ first′ last′ z e i j =
+      turned count′ first′ last′ (e ∙ sym (weight-is ∙ ap (λ (m : ℕ). count + nonzero m) z ∙ ap (λ (m : ℕ). count + m) nothing-counts ∙ add-zero count))
+      (rw i (rw j (subst (λ (x : List ℕ). Ends (replicate 63 0) x first last) (zero-same z) (a .ends))))
+
+module _ (r f n : ℕ) (w : List ℕ) (count first last values left l : ℕ) (a : PlacedTo r f n w count first last values left l) where
   pub placed-room : count + 1 < 256
   placed-room =
       let h : count ≤ 63 = le-trans (le-of-eq (a .weighs)) (le-trans (weight-le w) (le-of-eq (a .long))) in
@@ -232,8 +281,8 @@ module _ (r f n : ℕ) (w : List ℕ) (count values left l : ℕ) (a : PlacedTo 
   pub placed-long : length w ≡ 63
   placed-long = a .long
 
-  pub placed-all : 63 ≤ l → Placed r f n (record { word = w; weight = count })
-  placed-all h = record { long = a .long; set = λ k b o. a .done k (omega arith) o; clear = a .clear; weighs = a .weighs }
+  pub placed-all : 63 ≤ l → Placed r f n (record { word = w; weight = count; first = first; last = last })
+  placed-all h = record { long = a .long; set = λ k b o. a .done k (omega arith) o; clear = a .clear; weighs = a .weighs; ends = a .ends }
 
 -- ---- values_at_roots
 
@@ -287,4 +336,5 @@ module _ (row : ℕ) (p s : List ℕ) (n f : ℕ) (c : Coefficients row p) (k : 
               (same-or-not (r / 2 ^ l % 2) 0);
         };
         weighs = a .weighs;
+        ends = a .ends;
       }

@@ -5,12 +5,13 @@ use mathlib.Core.List.{List}
 use Prim.Native.Nat.{ℕ, min, _+_, _/_, _≤_}
 use native.Mathlib.Nat.{le-trans, le-of-eq}
 use native.Mathlib.Omega.{arith}
-use lib.ListN.{length, getD}
+use lib.ListN.{length, getD, replicate}
 use Rattle.field.specs.Field.{sum}
 use Rattle.field.proofs.Laws
 use Rattle.polynomial.specs.Sums.{weight}
 use Rattle.polynomial.proofs.Theorems.{vanishing-sums}
-use Rattle.code.specs.Word.{Clean, added, distance}
+use Rattle.code.specs.Word.{Clean, added, distance, firstChanged, lastChanged}
+use Rattle.code.specs.Inside.{Ends}
 use Rattle.code.proofs.Words.{length-added, characters-added, added-zeros}
 use Rattle.code.proofs.Distances.{weight-added, distance-comm, triangle, distance-weight}
 use Rattle.code.proofs.Theorems.{one-clean-near}
@@ -32,12 +33,21 @@ one-fits s c e u v h f g =
     ∙ ap₂ sum (sym (f .sums k l)) (sym (g .sums k l)) ∙ Laws.sum-self (getD s k 0)))
 
 -- the parts of an answer fix it
-one-mended : (m n : Mended) → m .found ≡ n .found → m .weight ≡ n .weight → m .word ≡ n .word → m ≡ n
-one-mended m n p q r =
-    ap (λ (b : Bool). whole b (m .weight) (m .word)) p ∙ ap₂ (λ (k : ℕ) (w : List ℕ). whole (n .found) k w) q r
+one-mended : (m n : Mended) → m .found ≡ n .found → m .weight ≡ n .weight → m .first ≡ n .first → m .last ≡ n .last → m .word ≡ n .word → m ≡ n
+one-mended m n p q f t r =
+    ap (λ (b : Bool). whole b (m .weight) (m .first) (m .last) (m .word)) p
+    ∙ ap₂ (λ (k : ℕ) (w : List ℕ). whole (n .found) k (m .first) (m .last) w) q r
+    ∙ ap₂ (λ (i j : ℕ). whole (n .found) (n .weight) i j (n .word)) f t
   where
-    whole : Bool → ℕ → List ℕ → Mended
-    whole b k w = record { found = b; weight = k; word = w }
+    whole : Bool → ℕ → ℕ → ℕ → List ℕ → Mended
+    whole b k i j w = record { found = b; weight = k; first = i; last = j; word = w }
+
+-- where the ends of one change are told twice, they are the same
+one-first : (w : List ℕ) {u v : List ℕ} {i j k l : ℕ} → u ≡ v → Ends w u i j → Ends w v k l → i ≡ k
+one-first w z p q = p .from ∙ ap (firstChanged w) z ∙ sym (q .from)
+
+one-last : (w : List ℕ) {u v : List ℕ} {i j k l : ℕ} → u ≡ v → Ends w u i j → Ends w v k l → j ≡ l
+one-last w z p q = p .to ∙ ap (lastChanged w) z ∙ sym (q .to)
 
 -- any two answers that mending allows are equal
 pub one-mend : (s : List ℕ) (c e : ℕ) (m n : Mended) → Mends s c e m → Mends s c e n → m ≡ n
@@ -46,10 +56,12 @@ one-mend s c e m n p q = by (m .found) (n .found) refl refl
     by : (a b : Bool) → m .found ≡ a → n .found ≡ b → m ≡ n
     by true true x y =
         let z : m .word ≡ n .word = one-fits s (min c 11) (min e (min c 11 / 2)) (m .word) (n .word) (omega arith) (p .fits x) (q .fits y) in
-        one-mended m n (x ∙ sym y) (p .weighs x ∙ ap weight z ∙ sym (q .weighs y)) z
+        one-mended m n (x ∙ sym y) (p .weighs x ∙ ap weight z ∙ sym (q .weighs y)) (one-first (replicate 63 0) z (p .ends x) (q .ends y)) (one-last (replicate 63 0) z (p .ends x) (q .ends y)) z
     by true false x y = absurd (q .none y (m .word) (p .fits x))
     by false true x y = absurd (p .none x (n .word) (q .fits y))
-    by false false x y = one-mended m n (x ∙ sym y) (p .no-weight x ∙ sym (q .no-weight y)) (p .no-word x ∙ sym (q .no-word y))
+    by false false x y =
+        one-mended m n (x ∙ sym y) (p .no-weight x ∙ sym (q .no-weight y)) (p .no-first x ∙ sym (q .no-first y)) (p .no-last x ∙ sym (q .no-last y))
+        (p .no-word x ∙ sym (q .no-word y))
 
 -- any two answers of looking for the nearest word are equal, where one word at most has the property within the distance
 pub one-nearest : (P : List ℕ → Type 0) (w : List ℕ) (e : ℕ) (m n : Mended)
@@ -62,10 +74,12 @@ one-nearest P w e m n one p q = by (m .found) (n .found) refl refl
     by : (a b : Bool) → m .found ≡ a → n .found ≡ b → m ≡ n
     by true true x y =
         let z : m .word ≡ n .word = one (p .of-word x) (m .word) (n .word) (p .is x) (q .is y) (near m p x) (near n q y) in
-        one-mended m n (x ∙ sym y) (p .apart x ∙ ap (distance w) z ∙ sym (q .apart y)) z
+        one-mended m n (x ∙ sym y) (p .apart x ∙ ap (distance w) z ∙ sym (q .apart y)) (one-first w z (p .ends x) (q .ends y)) (one-last w z (p .ends x) (q .ends y)) z
     by true false x y = absurd (q .none y (p .of-word x) (m .word) (p .is x) (near m p x))
     by false true x y = absurd (p .none x (q .of-word y) (n .word) (q .is y) (near n q y))
-    by false false x y = one-mended m n (x ∙ sym y) (p .no-weight x ∙ sym (q .no-weight y)) (p .no-word x ∙ sym (q .no-word y))
+    by false false x y =
+        one-mended m n (x ∙ sym y) (p .no-weight x ∙ sym (q .no-weight y)) (p .no-first x ∙ sym (q .no-first y)) (p .no-last x ∙ sym (q .no-last y))
+        (p .no-word x ∙ sym (q .no-word y))
 
 -- two words with the same eleven sums, within five of a word, are one
 pub one-with-sums : (s w u v : List ℕ) → Word w → HasSums s u → HasSums s v → distance w u ≤ 5 → distance w v ≤ 5 → u ≡ v

@@ -8,6 +8,7 @@ use Rattle.field.specs.Field.{product, total}
 use Rattle.lanes.specs.Lanes.{lane}
 use Rattle.polynomial.specs.Sums.{weight}
 use Rattle.code.specs.Word.{added}
+use Rattle.code.specs.Inside.{Ends}
 use Rattle.mender.specs.declared.Mended.{Mended}
 use Rattle.mender.specs.declared.Single.{Single}
 use Rattle.mender.specs.declared.Pattern.{Pattern}
@@ -31,10 +32,11 @@ pub record RootFrom (roots from r : ℕ) : Type 0 where
   pub none : (l : ℕ) → from ≤ l → l < r → roots / 2 ^ l % 2 ≡ 0
   pub here : r < 63 → roots / 2 ^ r % 2 ≡ 1
 
--- the characters are the values at their places, and counted
+-- the characters are the values at their places, counted, with the first and the last that is not 0
 pub record Patterned (p s : List ℕ) (r : Pattern) : Type 0 where
   pub valued : ValuedFrom p s (r .word) 63
   pub weighs : r .weight ≡ weight (r .word)
+  pub ends : Ends (replicate 63 0) (r .word) (r .first) (r .last)
 
 -- the first c of eleven sums are elements
 abbrev pub ElementsTo : List ℕ → ℕ → Type 0
@@ -50,12 +52,15 @@ pub record Repaired (s w : List ℕ) (e : ℕ) (m : Mended) : Type 0 where
   pub fits : Fits s 11 e errors
   pub weighs : m .weight ≡ weight errors
   pub word : m .word ≡ added w errors
+  pub ends : Ends w (m .word) (m .first) (m .last)
 
--- w without the at most e errors that have these eleven sums; or none do, and 0 and 63 zeros stand for it
+-- w without the at most e errors that have these eleven sums; or none do, and zeros stand for it
 pub record Repairs (s w : List ℕ) (e : ℕ) (m : Mended) : Type 0 where
   pub repaired : m .found ≡ true → Repaired s w e m
   pub none : m .found ≡ false → (x : List ℕ) → Fits s 11 e x → ⊥
   pub no-weight : m .found ≡ false → m .weight ≡ 0
+  pub no-first : m .found ≡ false → m .first ≡ 0
+  pub no-last : m .found ≡ false → m .last ≡ 0
   pub no-word : m .found ≡ false → m .word ≡ replicate 63 0
 
 -- the sixth window, combined with the coefficients of a packed row, which stand after five lanes

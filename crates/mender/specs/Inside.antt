@@ -83,4 +83,6 @@ Agree s t c = (k : ℕ) → k < c → getD s k 0 ≡ getD t k 0
 pub record Nothing (m : Mended) : Type 0 where
   pub not-found : m .found ≡ false
   pub no-weight : m .weight ≡ 0
+  pub no-first : m .first ≡ 0
+  pub no-last : m .last ≡ 0
   pub no-word : m .word ≡ replicate 63 0

@@ -4,11 +4,13 @@ use mathlib.Core.Bool.{cond}
 use mathlib.Core.List.{List}
 use Prim.Native.Nat.{ℕ, zero, suc, min, _+_, _-_, _/_, _%_, _^_, _<_, _≤_}
 use lib.Dec.{eqb}
-use lib.ListN.{length, getD}
+use lib.ListN.{length, getD, replicate}
 use Rattle.field.specs.Field.{sum, product, α, power, total}
 use Rattle.field.specs.Inside.{inverse}
 use Rattle.lanes.specs.Lanes.{lane}
 use Rattle.polynomial.specs.Sums.{weight}
+use Rattle.code.specs.Word.{nowhere}
+use Rattle.code.specs.Inside.{Ends}
 use Rattle.mender.specs.declared.Ahead.{Ahead}
 use Rattle.mender.specs.declared.Pattern.{Pattern}
 use Rattle.mender.specs.Inside.{mixed, coef}
@@ -106,12 +108,17 @@ pub record QuotientNext (f n roots l : ℕ) (a : Ahead) : Type 0 where
   pub some : 0 < a .left
   pub ahead : QuotientsAhead f n roots l a
 
--- the quotient at each root, 0 at every other place, and how many are not 0
+-- the last of some addresses and one before them all
+unfoldable pub lastOf : ℕ → ℕ → ℕ
+lastOf last address = cond (eqb last nowhere) address last
+
+-- the quotient at each root, 0 at every other place, how many are not 0, and the first and the last of them
 pub record Placed (roots f n : ℕ) (r : Pattern) : Type 0 where
   pub long : length (r .word) ≡ 63
   pub set : (l : ℕ) → l < 63 → roots / 2 ^ l % 2 ≡ 1 → getD (r .word) (62 - l) 0 ≡ quotientAt f n (power α l)
   pub clear : (l : ℕ) → l < 63 → roots / 2 ^ l % 2 ≡ 0 → getD (r .word) (62 - l) 0 ≡ 0
   pub weighs : r .weight ≡ weight (r .word)
+  pub ends : Ends (replicate 63 0) (r .word) (r .first) (r .last)
 
 -- ---- the locator
 

@@ -11,7 +11,7 @@ ghost use Rattle.code.specs.Held.{eleven};
 ghost use Rattle.mender.specs.Found.{lone, OneError, RootFrom, Patterned, ElementsTo, Clear, Repairs, sixth};
 ghost use Rattle.mender.specs.Rows.{UnitRows, PivotRow, Multiples, RowsCleared, RowsFrom, FirstRow, Coefficients};
 ghost use Rattle.mender.specs.Inside.{Agree, Nothing};
-ghost use Rattle.mender.specs.Values.{Placed, PlacesFrom, QuotientsIn, QuotientsAhead, QuotientNext, BothAt, Spread, inverseOrNone, InversesIn, Raised, NumeratorIn, DenominatorIn, FractionIn, Kills};
+ghost use Rattle.mender.specs.Values.{Placed, PlacesFrom, QuotientsIn, QuotientsAhead, QuotientNext, BothAt, Spread, lastOf, inverseOrNone, InversesIn, Raised, NumeratorIn, DenominatorIn, FractionIn, Kills};
 use code::Eleven;
 use lanes::FIVE_LANES;
 use lanes::FOUR_LANES;
@@ -24,10 +24,16 @@ use lanes::TWO_LANES;
 // In each of five lanes 1.
 const FIVE_ONES: u64 = 17043521;
 
-// A word that was found, and how many of its characters are not 0, or how far it lies.
+// What stands for an address where there is none: the one after the last.
+const NOWHERE: u8 = 63;
+
+// A word that was found. Errors: how many of its characters are not 0, and the first and the last address of these. A word near another: how far it
+// lies, and the first and the last address at which it differs.
 pub struct Mended {
     pub found: bool,
     pub weight: u8,
+    pub first: u8,
+    pub last: u8,
     pub word: [u8; 63],
 }
 
@@ -38,10 +44,12 @@ struct Single {
     value: u8,
 }
 
-// A pattern of errors, and how many of its characters are not 0.
+// A pattern of errors, how many of its characters are not 0, and the first and the last address of these.
 struct Pattern {
     word: [u8; 63],
     weight: u8,
+    first: u8,
+    last: u8,
 }
 
 // Values at the next roots, in lanes, the nearest lowest: so many are left.
@@ -97,6 +105,8 @@ fn repaired(word: &[u8], sums: Eleven, e: usize) -> Mended
         return Mended {
             found: true,
             weight: 0,
+            first: NOWHERE,
+            last: NOWHERE,
             word: same,
         };
     }
@@ -104,9 +114,12 @@ fn repaired(word: &[u8], sums: Eleven, e: usize) -> Mended
         let one = lone_error(sums);
         if one.found {
             let mended = changed(word, one.address, one.value);
+            let address = one.address as u8;
             return Mended {
                 found: true,
                 weight: 1,
+                first: address,
+                last: address,
                 word: mended,
             };
         }
@@ -120,6 +133,8 @@ fn repaired(word: &[u8], sums: Eleven, e: usize) -> Mended
     Mended {
         found: true,
         weight: errors.weight,
+        first: errors.first,
+        last: errors.last,
         word: mended,
     }
 }
@@ -185,6 +200,8 @@ fn nothing() -> Mended
     Mended {
         found: false,
         weight: 0,
+        first: 0,
+        last: 0,
         word: [0u8; 63],
     }
 }
@@ -220,6 +237,8 @@ fn find(s: Eleven, c: usize, e: usize) -> Mended
     Mended {
         found: true,
         weight: pattern.weight,
+        first: pattern.first,
+        last: pattern.last,
         word: w,
     }
 }
@@ -249,13 +268,16 @@ fn values_at_roots(row: u64, p: [u8; 6], s: [u8; 11], n: usize) -> Pattern
     )
 }
 
-// The value of the fraction f at each root, five at a time, and 0 at every other place.
+// The value of the fraction f at each root, five at a time, and 0 at every other place. The roots come from the last address down, so the first value
+// that is not 0 stands last.
 fn placed(roots: u64, f: u64, n: usize) -> Pattern
     requires { ⌜ n ≤ 5 ⌝ }
     ensures { λ r. ⌜ Placed roots f n r ⌝ }
 {
     let mut w = [0u8; 63];
     let mut count: u8 = 0;
+    let mut first: u8 = NOWHERE;
+    let mut last: u8 = NOWHERE;
     let mut values: u64 = 0;
     let mut left: usize = 0;
     let mut l = root_from(roots, 0);
@@ -265,6 +287,8 @@ fn placed(roots: u64, f: u64, n: usize) -> Pattern
         w[62 - l] = v;
         if v != 0 {
             count += 1;
+            first = (62 - l) as u8;
+            last = last_of(last, first);
         }
         values = ahead.values / 64;
         left = ahead.left - 1;
@@ -274,7 +298,19 @@ fn placed(roots: u64, f: u64, n: usize) -> Pattern
     Pattern {
         word: w,
         weight: count,
+        first,
+        last,
     }
+}
+
+// The last of some addresses and one before them all: where there are none, that one.
+fn last_of(last: u8, address: u8) -> u8
+    ensures { λ r. ⌜ r ≡ lastOf last address ⌝ }
+{
+    if last == NOWHERE {
+        return address;
+    }
+    last
 }
 
 // The first set bit from a place on, or 63: bit 63 is set to stop at.

@@ -29,8 +29,8 @@ module _ (t : ℕ) (word old new : List ℕ) (r : LineReading) (room : length ol
   line-answer : (fields : List ℕ) → fields ≡ lineFields r → LineFields t word fields
   line-answer fields e = record { reading = r; old = old; new = new; long = room; reads = reads; shows = e }
 
-  pub line-found : (number distance : ℕ) → r ≡ L.Line number distance → LineFields t word (0 ∷ distance ∷ number ∷ [])
-  line-found number distance e = line-answer _ (sym (ap lineFields e))
+  pub line-found : (number distance first last : ℕ) → r ≡ L.Line number distance first last → LineFields t word (0 ∷ distance ∷ number ∷ [])
+  line-found number distance first last e = line-answer _ (sym (ap lineFields e))
 
   pub line-refused : (why : Refusal) (fields : List ℕ) → r ≡ L.Refused why → fields ≡ numberOf why ∷ 0 ∷ 0 ∷ [] → LineFields t word fields
   line-refused why fields e f = line-answer fields (f ∙ sym (ap lineFields e))
@@ -39,8 +39,8 @@ module _ (t : ℕ) (word old new : List ℕ) (r : RingReading) (room : length ol
   ring-answer : (fields : List ℕ) → fields ≡ ringFields r → RingFields t word fields
   ring-answer fields e = record { reading = r; old = old; new = new; long = room; reads = reads; shows = e }
 
-  pub ring-found : (start number distance : ℕ) → r ≡ R.Line start number distance → RingFields t word (0 ∷ start ∷ distance ∷ [])
-  ring-found start number distance e = ring-answer _ (sym (ap ringFields e))
+  pub ring-found : (start number distance first last : ℕ) → r ≡ R.Line start number distance first last → RingFields t word (0 ∷ start ∷ distance ∷ [])
+  ring-found start number distance first last e = ring-answer _ (sym (ap ringFields e))
 
   pub ring-refused : (why : Refusal) (fields : List ℕ) → r ≡ R.Refused why → fields ≡ numberOf why ∷ 0 ∷ 0 ∷ [] → RingFields t word fields
   ring-refused why fields e f = ring-answer fields (f ∙ sym (ap ringFields e))

@@ -55,7 +55,7 @@ number-few l p = omega (arith, line-characters l p 50, line-characters l p 51)
 few-line : (t : ℕ) (w old new fields : List ℕ) (r : LineReading) → line.Reads w t W.Any old (line.readingNumbers r) new → fields ≡ lineFields r → Few fields
 unfolding line.Reads
 few-line t w old new fields (L.Refused why) q e = few-refused why fields e
-few-line t w old new fields (L.Line n d) q e =
+few-line t w old new fields (L.Line n d first last) q e =
     let small : t ≤ 5 = passed (line.readingTests w t W.Any (length old)) 0 (q .0) refl .1 .1 .1 .0 in
     let number-is : n ≡ number new = ap (λ (l : List ℕ). getD l 0 0) (q .1 .1) in
     record {
@@ -71,7 +71,7 @@ few-line t w old new fields (L.Line n d) q e =
 few-ring : (t : ℕ) (w old new fields : List ℕ) (r : RingReading) → ring.ReadsRing w t old (ring.readingNumbers r) new → fields ≡ ringFields r → Few fields
 unfolding ring.ReadsRing
 few-ring t w old new fields (R.Refused why) q e = few-refused why fields e
-few-ring t w old new fields (R.Line k n d) q e =
+few-ring t w old new fields (R.Line k n d first last) q e =
     let small : t ≤ 5 = passed (ring.readingTests w t (length old)) 0 (q .0) refl .1 .1 .1 .0 in
     let at = q .1 in
     record {

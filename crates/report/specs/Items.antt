@@ -25,12 +25,12 @@ letter K.Block = 66
 
 -- for a line the distance and the number
 abbrev pub lineFields : LineReading → List ℕ
-lineFields (L.Line number distance) = 0 ∷ distance ∷ number ∷ []
+lineFields (L.Line number distance first last) = 0 ∷ distance ∷ number ∷ []
 lineFields (L.Refused r) = numberOf r ∷ 0 ∷ 0 ∷ []
 
 -- for a ring the start and the distance
 abbrev pub ringFields : RingReading → List ℕ
-ringFields (R.Line start number distance) = 0 ∷ start ∷ distance ∷ []
+ringFields (R.Line start number distance first last) = 0 ∷ start ∷ distance ∷ []
 ringFields (R.Refused r) = numberOf r ∷ 0 ∷ 0 ∷ []
 
 -- for a block the distance and the row count

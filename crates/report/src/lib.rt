@@ -247,7 +247,12 @@ fn line_fields(radius: u8, word: &[u8]) -> [u16; 3]
     let mut room = [0u8; 63];
     let reading = line::read_line(word, radius, Wanted::Any, &mut room);
     match reading {
-        LineReading::Line { number, distance } => [0, distance as u16, number],
+        LineReading::Line {
+            number,
+            distance,
+            first: _,
+            last: _,
+        } => [0, distance as u16, number],
         LineReading::Refused(why) => refused(why),
     }
 }
@@ -263,6 +268,8 @@ fn ring_fields(radius: u8, word: &[u8]) -> [u16; 3]
             start,
             number: _,
             distance,
+            first: _,
+            last: _,
         } => [0, start as u16, distance as u16],
         RingReading::Refused(why) => refused(why),
     }

@@ -1,4 +1,4 @@
--- What is proved of rings, in the words of the rules and of the requests: the word at a start, a line's recording, the list, the true start alone, the false starts of an undamaged ring, a known direction, a dark ring, the marks at the starts, and one result.
+-- What is proved of rings, in the words of the rules and of the requests: the word at a start, a line's recording, the list, where the word was changed, the true start alone, the false starts of an undamaged ring, a known direction, a dark ring, the marks at the starts, and one result.
 use mathlib.Core.Path.{_≡_, refl, sym, ap, ap₂, _∙_, subst}
 use mathlib.Core.Bool.{true, true≢false}
 use mathlib.Core.Logic.{inl}
@@ -12,13 +12,14 @@ use Rattle.refusal.specs.Number.{numberOf}
 use Rattle.refusal.proofs.Laws.{one-refusal, refusal-positive, one-answer}
 use Rattle.refusal.proofs.Theorems.{one-result, same-numbers}
 use Rattle.polynomial.specs.Sums.{nonzero, weight}
-use Rattle.code.specs.Word.{Characters, marks, Line, number, distance, listed, reversed}
+use Rattle.code.specs.Word.{Characters, marks, Line, number, distance, nowhere, firstChanged, lastChanged, listed, reversed}
 use Rattle.code.proofs.Words.{listed-long}
 use Rattle.code.proofs.Distances.{distance-weight, distance-self, weight-added}
 use Rattle.code.proofs.Lines.{line-long, line-characters, marks-weight}
 use Rattle.code.proofs.Turning.{turned-get, reversed-get}
-use Rattle.code.proofs.Theorems.{zero-line}
-use Rattle.line.specs.Promises.{Within}
+use Rattle.code.proofs.Changes.{First, Last}
+use Rattle.code.proofs.Theorems.{zero-line, first-changed, last-changed, unchanged}
+use Rattle.line.specs.Promises.{Within, told}
 use Rattle.line.proofs.Theorems.{one-within}
 use Rattle.ring.specs.declared.RingListing.{RingListing}
 use Rattle.ring.specs.declared.RingListing.the-variants as L
@@ -105,11 +106,12 @@ one-ring-listing (L.Refused r) (L.Listed m) q = absurd (refusal-positive r (ap (
 one-ring-listing (L.Refused r) (L.Refused s) q = ap L.Refused (one-refusal r s (ap (λ (l : List ℕ). getD l 0 0) q))
 
 one-ring-reading : (r s : RingReading) → readingNumbers r ≡ readingNumbers s → r ≡ s
-one-ring-reading (R.Line k n d) (R.Line j m e) q =
-    ap (λ (x : ℕ). R.Line x n d) (ap (λ (l : List ℕ). getD l 1 0) q)
-    ∙ ap₂ (λ (x y : ℕ). R.Line j x y) (ap (λ (l : List ℕ). getD l 2 0) q) (ap (λ (l : List ℕ). getD l 3 0) q)
-one-ring-reading (R.Line k n d) (R.Refused s) q = absurd (refusal-positive s (sym (ap (λ (l : List ℕ). getD l 0 0) q)))
-one-ring-reading (R.Refused r) (R.Line j m e) q = absurd (refusal-positive r (ap (λ (l : List ℕ). getD l 0 0) q))
+one-ring-reading (R.Line k n d f t) (R.Line j m e g u) q =
+    ap (λ (x : ℕ). R.Line x n d f t) (ap (λ (l : List ℕ). getD l 1 0) q)
+    ∙ ap₂ (λ (x y : ℕ). R.Line j x y f t) (ap (λ (l : List ℕ). getD l 2 0) q) (ap (λ (l : List ℕ). getD l 3 0) q)
+    ∙ ap₂ (λ (x y : ℕ). R.Line j m e x y) (ap (λ (l : List ℕ). getD l 4 0) q) (ap (λ (l : List ℕ). getD l 5 0) q)
+one-ring-reading (R.Line k n d f t) (R.Refused s) q = absurd (refusal-positive s (sym (ap (λ (l : List ℕ). getD l 0 0) q)))
+one-ring-reading (R.Refused r) (R.Line j m e g u) q = absurd (refusal-positive r (ap (λ (l : List ℕ). getD l 0 0) q))
 one-ring-reading (R.Refused r) (R.Refused s) q = ap R.Refused (one-refusal r s (ap (λ (l : List ℕ). getD l 0 0) q))
 
 module _ (ring : List ℕ) (t : ℕ) where
@@ -122,7 +124,7 @@ module _ (ring : List ℕ) (t : ℕ) where
   one-read-at long small f g x y p q =
       let e : p .start ≡ q .start = ap (λ (l : List ℕ). getD l 0 0) (one-those (p .only) (q .only)) in
       let h : x ≡ y = one-within t (placed (q .start) ring) x y (kept (q .start) .long ring) small (rw e at (p .within)) (q .within) in
-      (p .shows ∙ ap₂ (λ (k : ℕ) (l : List ℕ). k ∷ number l ∷ distance (placed k ring) l ∷ []) e h ∙ sym (q .shows), h)
+      (p .shows ∙ ap₂ (λ (k : ℕ) (l : List ℕ). k ∷ told (placed k ring) l) e h ∙ sym (q .shows), h)
 
   -- any two results of listing are equal
   pub one-listing : (old : List ℕ) (r s : RingListing) (x y : List ℕ) → ListsRing ring t old (listingNumbers r) x → ListsRing ring t old (listingNumbers s) y
@@ -137,7 +139,7 @@ module _ (ring : List ℕ) (t : ℕ) where
       → (r ≡ s) × (x ≡ y)
   unfolding ReadsRing
   one-reading old r s x y p q =
-      let e = one-result (readingTests ring t (length old)) (ReadsAt ring t) 3 (λ passed. one-read-at (passed .0) (passed .1 .1 .1 .0)) old
+      let e = one-result (readingTests ring t (length old)) (ReadsAt ring t) 5 (λ passed. one-read-at (passed .0) (passed .1 .1 .1 .0)) old
       (readingNumbers r) (readingNumbers s) x y p q in
       (one-ring-reading r s (e .0), e .1)
 
@@ -147,7 +149,7 @@ module _ (ring : List ℕ) (t : ℕ) where
   unfolding ReadsRing
   same-reading old other r s x y e p q =
       one-ring-reading r s
-      (same-numbers (readingTests ring t (length old)) (ReadsAt ring t) 3 (λ passed. one-read-at (passed .0) (passed .1 .1 .1 .0)) old other
+      (same-numbers (readingTests ring t (length old)) (ReadsAt ring t) 5 (λ passed. one-read-at (passed .0) (passed .1 .1 .1 .0)) old other
       (readingNumbers r) (readingNumbers s) x y p (rw (sym e) at q))
 
 -- ---- listing and reading, for a ring of 63 characters and a radius of at most 5
@@ -172,12 +174,42 @@ module _ (ring : List ℕ) (t : ℕ) (long : length ring ≡ 63) (characters : C
 
   -- reading yields the line at the one start of a list with one entry
   pub reads-only-start : (old l : List ℕ) (k : ℕ) → length old ≡ 63 → ListOf t ring (k ∷ []) → Within t (placed k ring) l
-      → ReadsRing ring t old (readingNumbers (R.Line k (number l) (distance (placed k ring) l))) l
+      → ReadsRing ring t old (readingNumbers (R.Line k (number l) (distance (placed k ring) l) (firstChanged (placed k ring) l) (lastChanged (placed k ring) l))) l
   unfolding ReadsRing
   reads-only-start old l k room only within = (
     inl (long, inl (room, inl (characters, inl (small, inl ((k ∷ [], only, omega arith), inl ((k ∷ [], only, omega arith), refl)))))),
     record { start = k; only = only; within = within; shows = refl },
   )
+
+-- ---- where the word was changed, for every ring, every radius and whatever lay in the output: in a success the output differs from the word at the start
+-- at the first changed address and at the last, and nowhere before the one or after the other; where it does not differ both are 63
+
+module _ (ring : List ℕ) (t : ℕ) (old : List ℕ) (k n d f g : ℕ) (x : List ℕ) (reads : ReadsRing ring t old (readingNumbers (R.Line k n d f g)) x) where
+  read-there : ReadsAt ring t (k ∷ n ∷ d ∷ f ∷ g ∷ []) x
+  unfolding ReadsRing
+  read-there = reads .1
+
+  told-there : n ∷ d ∷ f ∷ g ∷ [] ≡ told (placed k ring) x
+  told-there =
+      let e : k ≡ read-there .start = ap (λ (l : List ℕ). getD l 0 0) (read-there .shows) in
+      ap (drop 1) (read-there .shows) ∙ ap (λ (j : ℕ). told (placed j ring) x) (sym e)
+
+  first-is : f ≡ firstChanged (placed k ring) x
+  first-is = ap (λ (l : List ℕ). getD l 2 0) told-there
+
+  last-is : g ≡ lastChanged (placed k ring) x
+  last-is = ap (λ (l : List ℕ). getD l 3 0) told-there
+
+  pub read-first : (placed k ring ≡ x → ⊥) → First (placed k ring) x f
+  read-first c =
+      subst (First (placed k ring) x) (sym first-is) (first-changed (placed k ring) x (kept k .long ring) (line-long x (read-there .within .line)) c)
+
+  pub read-last : (placed k ring ≡ x → ⊥) → Last (placed k ring) x g
+  read-last c = subst (Last (placed k ring) x) (sym last-is) (last-changed (placed k ring) x (kept k .long ring) (line-long x (read-there .within .line)) c)
+
+  pub read-unchanged : placed k ring ≡ x → (f ≡ nowhere) × (g ≡ nowhere)
+  read-unchanged e =
+      let u = unchanged (placed k ring) x (kept k .long ring) (line-long x (read-there .within .line)) e in (first-is ∙ u .0, last-is ∙ u .1)
 
 -- ---- the step below demand 3: the word at start k lies at distance e from the line l, e is at most the radius t, and e + t at most 3
 
@@ -200,11 +232,13 @@ module _ (ring l : List ℕ) (k e t : ℕ) (long : length ring ≡ 63) (start : 
 
     -- and every result of reading it is that line and that start
     pub reads-true-start : length old ≡ 63 → (r : RingReading) (x : List ℕ) → ReadsRing ring t old (readingNumbers r) x
-        → (r ≡ R.Line k (number l) e) × (x ≡ l)
+        → (r ≡ R.Line k (number l) e (firstChanged (placed k ring) l) (lastChanged (placed k ring) l)) × (x ≡ l)
     reads-true-start room r x p =
-        let q = one-reading ring t old r (R.Line k (number l) (distance (placed k ring) l)) x l p
+        let f : ℕ = firstChanged (placed k ring) l in
+        let g : ℕ = lastChanged (placed k ring) l in
+        let q = one-reading ring t old r (R.Line k (number l) (distance (placed k ring) l) f g) x l p
         (reads-only-start ring t long characters (omega arith) old l k room true-start-alone (record { line = line; near = omega arith })) in
-        (q .0 ∙ ap (R.Line k (number l)) apart, q .1)
+        (q .0 ∙ ap (λ (d : ℕ). R.Line k (number l) d f g) apart, q .1)
 
 -- ---- demand 3: a line l, whatever its text, a start m, and a ring that differs from the line's recording at m in e places, e at most the radius t, and e + t at most 3
 
@@ -223,9 +257,10 @@ module _ (l ring : List ℕ) (m e t : ℕ) (line : Line l) (start : m < 126) (lo
         → (r ≡ L.Listed 1) × (x ≡ m ∷ drop 1 old)
     lists-recorded = lists-true-start ring l m e t long start line apart-there within together characters old
 
-    -- every result of reading is the start m, the line's number, the distance e, and the line as the output
+    -- every result of reading is the start m, the line's number, the distance e, the first and the last changed address of the word at m, and the line as
+    -- the output
     pub reads-recorded : length old ≡ 63 → (r : RingReading) (x : List ℕ) → ReadsRing ring t old (readingNumbers r) x
-        → (r ≡ R.Line m (number l) e) × (x ≡ l)
+        → (r ≡ R.Line m (number l) e (firstChanged (placed m ring) l) (lastChanged (placed m ring) l)) × (x ≡ l)
     reads-recorded = reads-true-start ring l m e t long start line apart-there within together characters old
 
 -- ---- an undamaged ring: a line l, whatever its text and number, a start m, the line's recording at m with no wrong character, and a radius t

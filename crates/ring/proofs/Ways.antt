@@ -9,11 +9,11 @@ use native.Mathlib.Omega.{arith}
 use lib.ListN.{length, getD, drop}
 use Rattle.numbers.proofs.Cases.{pos-of-not-zero}
 use Rattle.refusal.specs.Promise.{Tells}
-use Rattle.code.specs.Word.{Characters, Line, distance}
+use Rattle.code.specs.Word.{Characters, Line, number, distance}
 use Rattle.code.proofs.Lines.{line-characters}
 use Rattle.mender.specs.declared.Mended.{Mended}
 use Rattle.mender.specs.Mender.{Nearest}
-use Rattle.line.specs.Promises.{Within}
+use Rattle.line.specs.Promises.{Within, told}
 use Rattle.ring.specs.Ring.{placed, Start, ListOf}
 use Rattle.ring.specs.Promises.{Lists, ListsRing, ListHas, ReadsAt, ReadsRing}
 use Rattle.ring.specs.Inside.{Listable}
@@ -88,27 +88,27 @@ module _ (ring : List ℕ) (t : ℕ) (before : List ℕ) (n : ℕ) (out : List �
 -- ---- reading
 
 module _ (ring : List ℕ) (t : ℕ) (old : List ℕ) where
-  pub read-other-length : (length ring ≡ 63 → ⊥) → ReadsRing ring t old (1 ∷ 0 ∷ 0 ∷ 0 ∷ []) old
+  pub read-other-length : (length ring ≡ 63 → ⊥) → ReadsRing ring t old (1 ∷ 0 ∷ 0 ∷ 0 ∷ 0 ∷ 0 ∷ []) old
   unfolding ReadsRing
   read-other-length d = (inr (d, refl), (refl, refl))
 
   module _ (long : length ring ≡ 63) where
-    pub read-other-room : (length old ≡ 63 → ⊥) → ReadsRing ring t old (5 ∷ 0 ∷ 0 ∷ 0 ∷ []) old
+    pub read-other-room : (length old ≡ 63 → ⊥) → ReadsRing ring t old (5 ∷ 0 ∷ 0 ∷ 0 ∷ 0 ∷ 0 ∷ []) old
     unfolding ReadsRing
     read-other-room d = (inl (long, inr (d, refl)), (refl, refl))
 
     module _ (room : length old ≡ 63) (b : Bool) (range : Tells (Characters ring) b) where
-      pub read-out-of-range : b ≡ false → ReadsRing ring t old (2 ∷ 0 ∷ 0 ∷ 0 ∷ []) old
+      pub read-out-of-range : b ≡ false → ReadsRing ring t old (2 ∷ 0 ∷ 0 ∷ 0 ∷ 0 ∷ 0 ∷ []) old
       unfolding ReadsRing
       read-out-of-range q = (inl (long, inl (room, inr (range .fails q, refl))), (refl, refl))
 
       module _ (in-range : b ≡ true) where
-        pub read-radius-over : 5 < t → ReadsRing ring t old (3 ∷ 0 ∷ 0 ∷ 0 ∷ []) old
+        pub read-radius-over : 5 < t → ReadsRing ring t old (3 ∷ 0 ∷ 0 ∷ 0 ∷ 0 ∷ 0 ∷ []) old
         unfolding ReadsRing
         read-radius-over h = (inl (long, inl (room, inl (range .holds in-range, inr (λ g. omega arith, refl)))), (refl, refl))
 
         module _ (small : t ≤ 5) (before : List ℕ) (n : ℕ) (out : List ℕ) (lists : Lists ring t before (n ∷ []) out) where
-          pub no-start : n ≡ 0 → ReadsRing ring t old (6 ∷ 0 ∷ 0 ∷ 0 ∷ []) old
+          pub no-start : n ≡ 0 → ReadsRing ring t old (6 ∷ 0 ∷ 0 ∷ 0 ∷ 0 ∷ 0 ∷ []) old
           unfolding ReadsRing
           no-start e = (
             inl (
@@ -128,7 +128,7 @@ module _ (ring : List ℕ) (t : ℕ) (old : List ℕ) where
           )
 
           module _ (some : n ≡ 0 → ⊥) where
-            pub many-starts : 1 < n → ReadsRing ring t old (10 ∷ 0 ∷ 0 ∷ 0 ∷ []) old
+            pub many-starts : 1 < n → ReadsRing ring t old (10 ∷ 0 ∷ 0 ∷ 0 ∷ 0 ∷ 0 ∷ []) old
             unfolding ReadsRing
             many-starts h = (
               inl (
@@ -174,7 +174,7 @@ module _ (ring : List ℕ) (t : ℕ) (old : List ℕ) where
                   record { line = nearest .is found-here; near = omega arith }
 
               pub the-line : (v : ℕ) → v ≡ getD (m .word) 50 0 % 64 * 64 + getD (m .word) 51 0 % 64 → (new : List ℕ) → new ≡ m .word
-                  → ReadsRing ring t old (0 ∷ getD out 0 0 ∷ v ∷ m .weight ∷ []) new
+                  → ReadsRing ring t old (0 ∷ getD out 0 0 ∷ v ∷ m .weight ∷ m .first ∷ m .last ∷ []) new
               unfolding ReadsRing
               the-line v e new output =
                   let c = line-characters (m .word) (nearest .is found-here) in (
@@ -191,13 +191,15 @@ module _ (ring : List ℕ) (t : ℕ) (old : List ℕ) where
                         ),
                       ),
                     ),
-                    subst (ReadsAt ring t (getD out 0 0 ∷ v ∷ m .weight ∷ [])) (sym output)
+                    subst (ReadsAt ring t (getD out 0 0 ∷ v ∷ m .weight ∷ m .first ∷ m .last ∷ [])) (sym output)
                         (record {
                           start = getD out 0 0;
                           only = list-one ring t before n out lists some few;
                           within = within-here;
-                          shows = ap₂ (λ (x y : ℕ). getD out 0 0 ∷ x ∷ y ∷ [])
-                              (e ∙ ap₂ (λ (x y : ℕ). x * 64 + y) (mod-eq-of-lt (c 50)) (mod-eq-of-lt (c 51)))
-                              (nearest .apart found-here ∙ ap (λ (w : List ℕ). distance w (m .word)) is);
+                          shows = ap₂ (λ (x y : ℕ). getD out 0 0 ∷ x ∷ y ∷ m .first ∷ m .last ∷ [])
+                              (e ∙ ap₂ (λ (x y : ℕ). x * 64 + y) (mod-eq-of-lt (c 50)) (mod-eq-of-lt (c 51))) (nearest .apart found-here)
+                              ∙ ap₂ (λ (x y : ℕ). getD out 0 0 ∷ number (m .word) ∷ distance word (m .word) ∷ x ∷ y ∷ []) (nearest .ends found-here .from)
+                              (nearest .ends found-here .to)
+                              ∙ ap (λ (w : List ℕ). getD out 0 0 ∷ told w (m .word)) is;
                         }),
                   )

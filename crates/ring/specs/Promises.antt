@@ -6,8 +6,8 @@ use lib.ListN.{length, drop}
 use Rattle.refusal.specs.declared.Refusal.the-variants.{InputLength, OutputLength, ValueOver, RadiusOver, NoLine, ManyStarts}
 use Rattle.refusal.specs.Number.{numberOf}
 use Rattle.refusal.specs.Promise.{Test, _else_, Promise}
-use Rattle.code.specs.Word.{Characters, number, distance}
-use Rattle.line.specs.Promises.{Within}
+use Rattle.code.specs.Word.{Characters}
+use Rattle.line.specs.Promises.{Within, told}
 use Rattle.ring.specs.declared.RingListing.{RingListing}
 use Rattle.ring.specs.declared.RingListing.the-variants as L
 use Rattle.ring.specs.declared.RingReading.{RingReading}
@@ -19,10 +19,10 @@ abbrev pub listingNumbers : RingListing → List ℕ
 listingNumbers (L.Listed count) = 0 ∷ count ∷ []
 listingNumbers (L.Refused r) = numberOf r ∷ 0 ∷ []
 
--- the numbers of a reading: the answer, the start, the line's number and its distance from the word there
+-- the numbers of a reading: the answer, the start, the line's number, its distance from the word there, and the first and the last changed address
 abbrev pub readingNumbers : RingReading → List ℕ
-readingNumbers (R.Line start number distance) = 0 ∷ start ∷ number ∷ distance ∷ []
-readingNumbers (R.Refused r) = numberOf r ∷ 0 ∷ 0 ∷ 0 ∷ []
+readingNumbers (R.Line start number distance first last) = 0 ∷ start ∷ number ∷ distance ∷ first ∷ last ∷ []
+readingNumbers (R.Refused r) = numberOf r ∷ 0 ∷ 0 ∷ 0 ∷ 0 ∷ 0 ∷ []
 
 -- listing asks for a ring of 63 characters, an output of 126 bytes and a radius of at most 5
 abbrev pub listingTests : List ℕ → ℕ → ℕ → List Test
@@ -58,12 +58,13 @@ readingTests ring t room =
     ∷ (ListHas t ring (λ n. n ≤ 1) else ManyStarts)
     ∷ []
 
--- and gives the line at the one start that is listed: the output gets it, and the fields are the start, its number and its distance
+-- and gives the line at the one start that is listed: the output gets it, and the fields are the start, and what is told of the line
+-- that is read from the word there: changed addresses are the line's, not places on the ring
 pub record ReadsAt (ring : List ℕ) (t : ℕ) (fields new : List ℕ) : Type 0 where
   pub start : ℕ
   pub only : ListOf t ring (start ∷ [])
   pub within : Within t (placed start ring) new
-  pub shows : fields ≡ start ∷ number new ∷ distance (placed start ring) new ∷ []
+  pub shows : fields ≡ start ∷ told (placed start ring) new
 
 unfoldable pub ReadsRing : List ℕ → ℕ → List ℕ → List ℕ → List ℕ → Type 0
-ReadsRing ring t old numbers new = Promise (readingTests ring t (length old)) (ReadsAt ring t) 3 old numbers new
+ReadsRing ring t old numbers new = Promise (readingTests ring t (length old)) (ReadsAt ring t) 5 old numbers new

@@ -17,11 +17,14 @@ pub enum RingListing {
     Refused(Refusal),
 }
 
+// The start, the line's number, its distance from the word there, and the first and the last changed address of that word; or why there is no one line.
 pub enum RingReading {
     Line {
         start: u8,
         number: u16,
         distance: u8,
+        first: u8,
+        last: u8,
     },
     Refused(Refusal),
 }
@@ -92,6 +95,8 @@ pub fn read_ring(ring: &[u8], radius: u8, output: &mut [u8]) -> RingReading
         start: start,
         number: line::number_of(line),
         distance: found.weight,
+        first: found.first,
+        last: found.last,
     }
 }
 

@@ -7,10 +7,10 @@ use Rattle.mender.proofs.placed.Statement.{statement}
 use Rattle.mender.proofs.placed.Tie as tie
 
 abbrev Inv-loop : tie.InvT-loop
-Inv-loop roots f n w₀ count₀ values₀ left₀ l₀ w count values left l = PlacedTo roots f n w count values left l
+Inv-loop roots f n w₀ count₀ first₀ last₀ values₀ left₀ l₀ w count first last values left l = PlacedTo roots f n w count first last values left l
 
 abbrev μ-loop : tie.MeasureT-loop
-μ-loop roots f n w₀ count₀ values₀ left₀ l₀ w count values left l = 63 - l
+μ-loop roots f n w₀ count₀ first₀ last₀ values₀ left₀ l₀ w count first last values left l = 63 - l
 
 loop-holds : tie.Need-loop-holds Inv-loop μ-loop
 loop-holds c = search (placed-none, needs)
@@ -40,6 +40,9 @@ placed-spec =
     (λ c. search needs)
     array-write-w
     add-count
+    (λ c. search needs)
+    (λ c. search needs)
+    (λ c κs. search needs)
     (λ c. search needs)
     (λ c. search needs)
     (λ c κs. search needs)

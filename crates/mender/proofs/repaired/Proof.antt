@@ -1,7 +1,7 @@
 -- `mender::repaired` meets its contract: each return is one way in which the repair ends.
 use borrow.Author.Needs.{needs}
 use borrow.Author.Tests.{not-true, not-false}
-use Rattle.mender.proofs.Repairing.{repairs-none, one-inside, repairs-one, repairs-not, repairs-more}
+use Rattle.mender.proofs.Repairing.{repairs-none, one-inside, address-fits, repairs-one, repairs-not, repairs-more}
 use Rattle.mender.proofs.repaired.Statement.{statement}
 use Rattle.mender.proofs.repaired.Tie as tie
 
@@ -10,6 +10,9 @@ returns c = search (repairs-none, needs)
 
 changed-requires : tie.Need-changed-requires
 changed-requires c κs = search (one-inside, needs)
+
+cast-address : tie.Need-cast-address
+cast-address c = search (address-fits, needs)
 
 returns-2 : tie.Need-returns-2
 returns-2 c = search (repairs-one, needs)
@@ -29,6 +32,7 @@ repaired-spec =
     returns
     (λ c κs. search needs)
     changed-requires
+    cast-address
     returns-2
     (λ c κs. search needs)
     (λ c κs. search needs)

@@ -1,0 +1,3 @@
+-- The laws of choosing between two scans, and the theorems.
+pub mod Laws
+pub mod Theorems

@@ -1,7 +1,7 @@
 /* The benchmark: the library, libfec and the second program on the same words, interleaved, the minimum of many rounds.
  *
- * bench/run builds and runs it. A time is that of the whole call, from the caller's characters to the caller's line, number and
- * distance. libfec knows neither marks nor numbers nor rings, so a small adapter takes the marks off and puts them on again, and
+ * bench/run builds and runs it. A time is that of the whole call, from the caller's characters to the caller's line, number, distance
+ * and changed addresses. libfec knows neither marks nor numbers nor rings, so a small adapter takes the marks off and puts them on again, and
  * turns a ring 126 times. Unlike the library it tests no lengths and no characters. Before anything is timed, all peers must
  * give the same answers on all words. */
 #include "bench.h"
@@ -34,6 +34,12 @@ static void ours_encode_by_character(const uint8_t *input, uint8_t radius, reply
 static void ours_read(const uint8_t *input, uint8_t radius, reply *r) {
     film_line line = film_read_line(input, 63, radius, r->out, 63);
     r->answer = line.answer, r->distance = line.distance, r->number = line.number, r->length = line.answer == 0 ? 63 : 0;
+    r->first = line.first, r->last = line.last;
+}
+
+static void ours_better(const uint8_t *input, uint8_t radius, reply *r) {
+    film_choice choice = film_better_scan(input, 63, input + 63, 63, radius);
+    r->answer = choice.answer, r->distance = 0, r->number = choice.scan, r->length = 0;
 }
 
 static void ours_list(const uint8_t *input, uint8_t radius, reply *r) {
@@ -84,22 +90,39 @@ static void fec_encode(const uint8_t *input, uint8_t radius, reply *r) {
     r->answer = 0, r->distance = 0, r->number = 0, r->length = 63;
 }
 
-/* The number of characters that were mended, or -1. */
-static int fec_mend(uint8_t *word) {
+/* The number of characters that were mended, or -1, and their addresses where there is room for them. */
+static int fec_mend(uint8_t *word, int *addresses) {
     marks(word);
-    int mended = decode_rs_char(fec, word, NULL, 0);
+    int mended = decode_rs_char(fec, word, addresses, 0);
     marks(word);
     return mended;
 }
 
 static void fec_read(const uint8_t *input, uint8_t radius, reply *r) {
+    int addresses[11];
     memcpy(r->out, input, 63);
-    int mended = fec_mend(r->out);
+    int mended = fec_mend(r->out, addresses);
     if (mended < 0 || mended > radius) {
-        r->answer = FILM_NO_LINE, r->distance = 0, r->number = 0, r->length = 0;
+        r->answer = FILM_NO_LINE, r->distance = 0, r->number = 0, r->length = 0, r->first = 0, r->last = 0;
         return;
     }
+    int first = FILM_NOWHERE, last = mended == 0 ? FILM_NOWHERE : 0;
+    for (int i = 0; i < mended; i++) {
+        first = addresses[i] < first ? addresses[i] : first;
+        last = addresses[i] > last ? addresses[i] : last;
+    }
     r->answer = 0, r->distance = (uint8_t)mended, r->number = (uint16_t)(r->out[50] * 64 + r->out[51]), r->length = 63;
+    r->first = (uint8_t)first, r->last = (uint8_t)last;
+}
+
+/* Both scans are mended, and the nearer is kept. */
+static void fec_better(const uint8_t *input, uint8_t radius, reply *r) {
+    uint8_t words[126];
+    memcpy(words, input, 126);
+    int first = fec_mend(words, NULL), second = fec_mend(words + 63, NULL);
+    int is_first = first >= 0 && first <= radius, is_second = second >= 0 && second <= radius;
+    r->number = is_second && (!is_first || second < first) ? 2 : is_first ? 1 : 0;
+    r->answer = r->number == 0 ? FILM_NO_LINE : FILM_DONE, r->distance = 0, r->length = 0;
 }
 
 static void fec_list(const uint8_t *input, uint8_t radius, reply *r) {
@@ -109,7 +132,7 @@ static void fec_list(const uint8_t *input, uint8_t radius, reply *r) {
         ring[i] = input[i % 63], back[i] = input[(125 - i) % 63];
     for (int k = 0; k < 126; k++) {
         memcpy(word, k < 63 ? ring + k : back + (62 - (k - 63)), 63);
-        int mended = fec_mend(word);
+        int mended = fec_mend(word, NULL);
         if (mended >= 0 && mended <= radius)
             r->out[r->length++] = (uint8_t)k;
     }
@@ -169,7 +192,7 @@ enum { LINES = 128, RINGS = 4, OURS = 0, FEC = 1, SECOND = 2, PEERS = 3, SELDOM 
 
 static const char *const peer_names[PEERS] = {"film", "libfec", "second"};
 
-typedef enum { ENCODE, READ, RING, NOISE, BLOCK, FIELD } kind;
+typedef enum { ENCODE, READ, SCANS, RING, NOISE, BLOCK, FIELD } kind;
 
 typedef struct {
     const char *name;
@@ -191,6 +214,7 @@ static row rows[] = {
     {"read_4", READ, 4, 5, {ours_read, fec_read, second_read}, {{0}}, {0}},
     {"read_5", READ, 5, 5, {ours_read, fec_read, second_read}, {{0}}, {0}},
     {"read_6_refused", READ, 6, 5, {ours_read, fec_read, second_read}, {{0}}, {0}},
+    {"better_scan", SCANS, 1, 5, {ours_better, fec_better, second_better}, {{0}}, {0}},
     {"list_clean_radius_5", RING, 0, 5, {ours_list, fec_list, second_list}, {{0}}, {0}},
     {"list_2_errors_radius_5", RING, 2, 5, {ours_list, fec_list, second_list}, {{0}}, {0}},
     {"list_noise_radius_5", NOISE, 0, 5, {ours_list, fec_list, second_list}, {{0}}, {0}},
@@ -261,6 +285,14 @@ static void make_word(const row *w, uint8_t *word) {
             fec_read(word, 5, &r);
         } while (r.answer != (w->wrong > 5 ? FILM_NO_LINE : FILM_DONE)); /* six wrong characters may lie near another line: not here */
         return;
+    case SCANS: /* one line, scanned with so many wrong characters and again with one more, in either order */
+        fec_encode(word, 0, &r);
+        memcpy(word, r.out, 63);
+        memcpy(word + 63, r.out, 63);
+        int more = (int)below(2);
+        damage(word, w->wrong + more);
+        damage(word + 63, w->wrong + 1 - more);
+        return;
     case RING: {
         fec_encode(word, 0, &r);
         memcpy(line, r.out, 63);
@@ -273,17 +305,20 @@ static void make_word(const row *w, uint8_t *word) {
     }
 }
 
-static int words_of(const row *w) { return w->of == RING || w->of == NOISE ? RINGS : LINES; }
+/* Two scans are two words, one after the other. */
+static int stride(const row *w) { return w->of == SCANS ? 2 : 1; }
+
+static int words_of(const row *w) { return w->of == RING || w->of == NOISE ? RINGS : LINES / stride(w); }
 
 static void same_answers(const row *w) {
     for (int i = 0; i < words_of(w); i++) {
-        reply due;
-        w->calls[OURS](w->words[i], w->radius, &due);
+        reply due = {0};
+        w->calls[OURS](w->words[i * stride(w)], w->radius, &due);
         for (int p = 1; p < PEERS; p++) {
-            reply r;
-            w->calls[p](w->words[i], w->radius, &r);
+            reply r = {0};
+            w->calls[p](w->words[i * stride(w)], w->radius, &r);
             if (r.answer != due.answer || r.distance != due.distance || r.number != due.number || r.length != due.length ||
-                memcmp(r.out, due.out, due.length) != 0) {
+                r.first != due.first || r.last != due.last || memcmp(r.out, due.out, due.length) != 0) {
                 printf("%s, word %d: %s and the library answer differently\n", w->name, i, peer_names[p]);
                 exit(1);
             }
@@ -296,8 +331,8 @@ static unsigned sink;
 
 __attribute__((noinline)) void measured(const row *w, int peer) {
     reply r;
-    for (int i = 0, n = words_of(w); i < n; i++) {
-        w->calls[peer](w->words[i], w->radius, &r);
+    for (int i = 0, n = words_of(w), step = stride(w); i < n; i++) {
+        w->calls[peer](w->words[i * step], w->radius, &r);
         sink += (unsigned)(r.answer + r.distance + r.out[0]);
     }
 }
@@ -340,7 +375,7 @@ int main(int argc, char **argv) {
     make_logs();
     for (row *w = rows; w < rows + ROWS; w++)
         for (int i = 0; i < words_of(w); i++)
-            make_word(w, w->words[i]);
+            make_word(w, w->words[i * stride(w)]);
 
     if (argc == 2 && strcmp(argv[1], "names") == 0) {
         for (const row *w = rows; w < rows + ROWS; w++)

@@ -18,6 +18,8 @@ mod random;
 mod refusals;
 #[path = "../second/ring.rs"]
 mod ring;
+#[path = "../second/scans.rs"]
+mod scans;
 
 use std::slice::from_raw_parts;
 use std::sync::OnceLock;
@@ -27,6 +29,8 @@ pub struct Reply {
     answer: u8,
     distance: u8,
     length: u8,
+    first: u8,
+    last: u8,
     number: u16,
     out: [u8; 126],
 }
@@ -54,8 +58,15 @@ pub unsafe extern "C" fn second_encode(input: *const u8, _: u8, r: &mut Reply) {
 
 #[no_mangle]
 pub unsafe extern "C" fn second_read(input: *const u8, radius: u8, r: &mut Reply) {
-    let (answer, number, distance, out) = line::read(code(), from_raw_parts(input, 63), radius, None, 63);
-    r.set(answer, distance, number, &out);
+    let (numbers, out) = line::read(code(), from_raw_parts(input, 63), radius, None, 63);
+    r.set(numbers[0] as u8, numbers[2], numbers[1] as u16, &out);
+    (r.first, r.last) = (numbers[3] as u8, numbers[4] as u8);
+}
+
+#[no_mangle]
+pub unsafe extern "C" fn second_better(input: *const u8, radius: u8, r: &mut Reply) {
+    let choice = scans::better(code(), from_raw_parts(input, 63), from_raw_parts(input.add(63), 63), radius);
+    r.set(choice[0] as u8, 0, choice[1] as u16, &[]);
 }
 
 #[no_mangle]

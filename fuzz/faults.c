@@ -7,6 +7,7 @@
 film_element __real_film_product(uint8_t u, uint8_t v);
 film_element __real_film_quotient(uint8_t u, uint8_t v);
 film_line __real_film_read_line(const uint8_t *word, size_t word_len, uint8_t radius, uint8_t *out, size_t out_len);
+film_choice __real_film_better_scan(const uint8_t *first, size_t first_len, const uint8_t *second, size_t second_len, uint8_t radius);
 film_list __real_film_list_ring(const uint8_t *ring, size_t ring_len, uint8_t radius, uint8_t *out, size_t out_len);
 film_block __real_film_read_block(const uint8_t *rows, size_t rows_len, uint8_t *out, size_t out_len);
 
@@ -36,11 +37,29 @@ film_line __wrap_film_read_line(const uint8_t *word, size_t word_len, uint8_t ra
 #elif FAULT == 2 /* a line at distance 5 that is not found */
     if (r.answer == FILM_DONE && r.distance == 5) {
         memset(out, 170, 63);
-        r = (film_line){FILM_NO_LINE, 0, 0};
+        r = (film_line){FILM_NO_LINE, 0, 0, 0, 0};
     }
 #elif FAULT == 3 /* a word that is no line */
     if (r.answer == FILM_DONE && r.distance == 4)
         out[60] ^= 1;
+#elif FAULT == 12 /* the last changed address is that of the last but one */
+    if (r.answer == FILM_DONE && r.distance == 2)
+        r.last = r.first;
+#endif
+    return r;
+}
+
+film_choice __wrap_film_better_scan(const uint8_t *first, size_t first_len, const uint8_t *second, size_t second_len, uint8_t radius) {
+    film_choice r = __real_film_better_scan(first, first_len, second, second_len, radius);
+#if FAULT == 13 /* the second where they tie */
+    uint8_t line[63];
+    film_line one = __real_film_read_line(first, first_len, radius, line, 63), other = __real_film_read_line(second, second_len, radius, line, 63);
+    if (r.scan == 1 && other.answer == FILM_DONE && other.distance == one.distance)
+        r.scan = 2;
+#elif FAULT == 14 /* where both are refused, the refusal of the second */
+    uint8_t line[63];
+    if (r.scan == 0)
+        r.answer = __real_film_read_line(second, second_len, radius, line, 63).answer;
 #endif
     return r;
 }

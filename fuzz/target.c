@@ -21,10 +21,12 @@ static void fail(int line, const char *fact) {
 
 /* ---- Which answers each call can give, and how often it gave them. */
 
-enum { SUM, PRODUCT, QUOTIENT, ENCODE_LINE, STEP, CHECKS, READ_LINE, READ_LINE_WANTED, LIST_RING, READ_RING, ENCODE_BLOCK, READ_BLOCK, CALLS };
+enum {
+    SUM, PRODUCT, QUOTIENT, ENCODE_LINE, STEP, CHECKS, READ_LINE, READ_LINE_WANTED, LIST_RING, READ_RING, ENCODE_BLOCK, READ_BLOCK, BETTER_SCAN, CALLS
+};
 
 static const char *const names[CALLS] = {"sum", "product", "quotient", "encode_line", "step", "checks", "read_line", "read_line_wanted",
-                                         "list_ring", "read_ring", "encode_block", "read_block"};
+                                         "list_ring", "read_ring", "encode_block", "read_block", "better_scan"};
 
 /* Bit n stands for answer n. */
 #define CAN(n) (UINT64_C(1) << (n))
@@ -42,6 +44,7 @@ static const uint64_t can_give[CALLS] = {
     CAN(0) | CAN(1) | CAN(5) | CAN(2) | CAN(3) | CAN(6) | CAN(10),
     CAN(0) | CAN(8) | CAN(5) | CAN(2),
     CAN(0) | CAN(8) | CAN(5) | CAN(9),
+    CAN(0) | CAN(1) | CAN(2) | CAN(3) | CAN(6),
 };
 
 static unsigned long given[CALLS][FILM_LAST_REFUSAL + 1];
@@ -71,7 +74,7 @@ typedef struct {
     size_t from, length;
 } slice;
 
-static slice input, output;
+static slice input, second_input, output;
 
 static void *or_die(void *mapped) {
     if (mapped == MAP_FAILED) {
@@ -156,6 +159,21 @@ static int distance(const uint8_t *one, const uint8_t *other) {
     for (int a = 0; a < 63; a++)
         n += one[a] != other[a];
     return n;
+}
+
+/* The first and the last address at which two words differ, 63 where they do not. */
+static int first_changed(const uint8_t *one, const uint8_t *other) {
+    int a = 0;
+    while (a < 63 && one[a] == other[a])
+        a++;
+    return a;
+}
+
+static int last_changed(const uint8_t *one, const uint8_t *other) {
+    for (int a = 62; a >= 0; a--)
+        if (one[a] != other[a])
+            return a;
+    return 63;
 }
 
 static int all_below(const uint8_t *bytes, size_t length, int bound) {
@@ -328,7 +346,7 @@ static film_line read_line(const made *m, size_t length, uint8_t radius, size_t 
     gave(READ_LINE, r.answer);
     HOLDS(kept_after(&output, r.answer == 0 ? 63 : 0));
     if (r.answer != 0) {
-        HOLDS(r.number == 0 && r.distance == 0 && r.answer == (due != 0 ? due : 6));
+        HOLDS(r.number == 0 && r.distance == 0 && r.first == 0 && r.last == 0 && r.answer == (due != 0 ? due : 6));
         if (r.answer == 6)
             HOLDS(!(m->is_made && distance(m->word, m->line) <= radius) && !is_line(m->word));
         return r;
@@ -336,6 +354,7 @@ static film_line read_line(const made *m, size_t length, uint8_t radius, size_t 
     uint8_t *copy = copied(&output);
     HOLDS(due == 0 && all_below(copy, 63, 64) && is_line(copy));
     HOLDS(r.distance == distance(copy, m->word) && r.distance <= radius && r.number == number_of(copy));
+    HOLDS(r.first == first_changed(copy, m->word) && r.last == last_changed(copy, m->word));
     if (m->is_made && distance(m->word, m->line) <= 5)
         HOLDS(memcmp(copy, m->line, 63) == 0);
     memcpy(line, copy, 63);
@@ -369,9 +388,28 @@ static void read_line_calls(void) {
     HOLDS(w.answer == (due != 0 ? due : wanted > 4095 ? 4 : r.answer != 0 ? 6 : wanted != r.number ? 7 : 0));
     HOLDS(kept_after(&output, w.answer == 0 ? 63 : 0));
     if (w.answer != 0)
-        HOLDS(w.number == 0 && w.distance == 0);
+        HOLDS(w.number == 0 && w.distance == 0 && w.first == 0 && w.last == 0);
     else
-        HOLDS(w.number == r.number && w.distance == r.distance && memcmp(output.page + output.from, line, 63) == 0);
+        HOLDS(memcmp(&w, &r, sizeof r) == 0 && memcmp(output.page + output.from, line, 63) == 0);
+}
+
+/* Two scans, of one line half of the time: each is read first, and the better is the one that is read with the smaller distance. */
+static void scan_calls(void) {
+    size_t length = take_length(63), second_length = take_length(63);
+    uint8_t radius = take() % 8, place = take(), is_same = take() & 1, wrong = take() % 7, line[63];
+    made one = take_word(), other = is_same ? one : take_word();
+    if (is_same && one.is_made) {
+        memcpy(other.word, one.line, 63);
+        for (int i = 0; i < wrong; i++)
+            other.word[take() % 63] ^= take() & 63;
+    }
+    film_line first = read_line(&one, length, radius, 63, place, line), second = read_line(&other, second_length, radius, 63, place, line);
+    const uint8_t *lent = lend(&input, one.word, length, place);
+    film_choice r = film_better_scan(lent, length, lend(&second_input, other.word, second_length, place >> 2), second_length, radius);
+    gave(BETTER_SCAN, r.answer);
+    int is_second = second.answer == 0 && (first.answer != 0 || second.distance < first.distance);
+    int due = is_second ? 2 : first.answer == 0 ? 1 : 0;
+    HOLDS(r.scan == due && r.answer == (due == 0 ? first.answer : 0));
 }
 
 /* Reads a word that lies so far from its line. */
@@ -460,7 +498,7 @@ static void ring_calls(void) {
     HOLDS(kept_after(&output, one.answer == 0 ? 63 : 0));
     int due = due_first(ring.word, length, line_room, 63, radius);
     HOLDS(due != 0 ? one.answer == due : one.answer == 0 || one.answer == 6 || one.answer == 10);
-    HOLDS(one.answer == 0 || (one.start == 0 && one.distance == 0 && one.number == 0));
+    HOLDS(one.answer == 0 || (one.start == 0 && one.distance == 0 && one.number == 0 && one.first == 0 && one.last == 0));
     HOLDS(one.answer != 0 || one.start < 126);
 
     if (r.answer == 0) {
@@ -478,7 +516,8 @@ static void ring_calls(void) {
             film_line read = read_line(&word, 63, radius, 63, place, line);
             HOLDS(listed == (read.answer == 0));
             if (one.answer == 0 && one.start == k)
-                HOLDS(listed && memcmp(line, found, 63) == 0 && one.distance == read.distance && one.number == read.number);
+                HOLDS(listed && memcmp(line, found, 63) == 0 && one.distance == read.distance && one.number == read.number && one.first == read.first
+                      && one.last == read.last);
         }
         HOLDS(at == r.count);
         if (due == 0)
@@ -567,13 +606,14 @@ int LLVMFuzzerInitialize(int *argc, char ***argv) {
             x ^= 67;
     }
     prepare(&input, PROT_READ);
+    prepare(&second_input, PROT_READ);
     prepare(&output, PROT_READ | PROT_WRITE);
     atexit(print_given);
     return 0;
 }
 
 int LLVMFuzzerTestOneInput(const uint8_t *data, size_t size) {
-    static void (*const calls[])(void) = {field_calls, register_calls, encode_line_call, read_line_calls,
+    static void (*const calls[])(void) = {field_calls, register_calls, encode_line_call, read_line_calls, scan_calls,
                                           merged_call, moved_call, ring_calls, block_calls};
     next = data;
     left = size;

@@ -24,12 +24,7 @@ pub fn choose_scan(first: &[u8], second: &[u8], radius: u8) -> Choice
 
 // Hands back the caller's own bytes of the scan that is chosen, or an empty part of the first. The answer is 0, or the first's refusal where both are
 // refused.
-pub fn better_scan<'a>(
-    first: &'a [u8],
-    second: &'a [u8],
-    radius: u8,
-    answer: &mut u8,
-) -> &'a [u8]
+pub fn better_scan<'a>(first: &'a [u8], second: &'a [u8], radius: u8, answer: &mut u8) -> &'a [u8]
     ensures { λ r. ⌜ Better (first .entry) (second .entry) radius r (now (answer .exit)) ⌝ }
 {
     let choice = choose_scan(first, second, radius);

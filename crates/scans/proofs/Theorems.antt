@@ -6,20 +6,22 @@ use Prim.Native.Nat.{ℕ, _<_, _≤_}
 use native.Mathlib.Omega.{arith}
 use lib.ListN.{length, getD}
 use denote.Ref.{RefT, now, ptr}
+use Rattle.numbers.proofs.Cases.{le-or-lt}
 use Rattle.refusal.specs.declared.Refusal.{Refusal}
 use Rattle.refusal.specs.declared.Refusal.the-variants.{InputLength, ValueOver, RadiusOver, NoLine}
 use Rattle.refusal.specs.Number.{numberOf}
 use Rattle.refusal.specs.Promise.{Answer}
-use Rattle.refusal.proofs.Laws.{one-refusal, refusal-positive}
+use Rattle.refusal.proofs.Laws.{one-refusal, refusal-positive, passed}
+use Rattle.code.specs.Word.{Characters, number, distance, firstChanged, lastChanged}
 use Rattle.line.specs.declared.Wanted.the-variants as W
 use Rattle.line.specs.declared.LineReading.{LineReading}
 use Rattle.line.specs.declared.LineReading.the-variants as R
-use Rattle.line.specs.Promises.{readingTests, Reads}
-use Rattle.line.proofs.Theorems.{same-reading}
+use Rattle.line.specs.Promises.{readingNumbers, Within, readingTests, Reads}
+use Rattle.line.proofs.Theorems.{one-within, same-reading, reads-line}
 use Rattle.scans.specs.declared.Choice.{Choice}
 use Rattle.scans.specs.declared.Choice.the-variants.{First, Second, Neither}
 use Rattle.scans.specs.Scans.{Answers, choiceOf}
-use Rattle.scans.specs.Promises.{choiceNumbers, Chooses, Hands, Better}
+use Rattle.scans.specs.Promises.{answerOf, scanOf, choiceNumbers, Chooses, Hands, Better}
 use Rattle.scans.proofs.Laws.{nearer, no-nearer}
 
 -- ---- one result
@@ -61,6 +63,20 @@ module _ (x y r s : RefT (List ℕ)) where
       one-choice (now x) (now y) t (choiceNumbers (p .choice)) (choiceNumbers (q .choice)) (p .chooses) (q .chooses) in
       let h = one-handed (q .choice) (subst (λ (c : Choice). Hands c x y r) (one-choice-of (p .choice) (q .choice) e) (p .hands)) (q .hands) in
       (h .0, h .1, p .answer ∙ ap (λ (l : List ℕ). getD l 0 0) e ∙ sym (q .answer))
+
+  -- where a scan is kept, also the reference as a whole, with the name under which its value is tracked; of an empty part that name is left open
+  pub one-kept : (t : ℕ) → Better x y t r 0 → Better x y t s 0 → r ≡ s
+  one-kept t p q =
+      same (q .choice) (sym (q .answer))
+      (subst (λ (c : Choice). Hands c x y r)
+      (one-choice-of (p .choice) (q .choice)
+      (one-choice (now x) (now y) t (choiceNumbers (p .choice)) (choiceNumbers (q .choice)) (p .chooses) (q .chooses))) (p .hands))
+      (q .hands)
+    where
+      same : (c : Choice) → answerOf c ≡ 0 → Hands c x y r → Hands c x y s → r ≡ s
+      same First e f g = f ∙ sym g
+      same Second e f g = f ∙ sym g
+      same (Neither why) e f g = absurd (refusal-positive why e)
 
 -- ---- which scan is kept, by what reading answers for the one and for the other: every result of choosing is that
 
@@ -116,3 +132,116 @@ scan-refusals scan t r p = by (p .reads .0)
     by (inl (_, inl (_, inl (_, inl (_, inl (_, inr q)))))) = inr (inr (inr (one-refusal r NoLine (q .1))))
     by (inl (_, inl (_, inl (_, inl (_, inl (_, inl (l, inr q))))))) = absurd (q .0 (l .0, l .1, tt))
     by (inl (_, inl (_, inl (_, inl (_, inl (_, inl (_, inl (_, q)))))))) = absurd (refusal-positive r q)
+
+-- ---- which scan is kept, by the lines that lie near them
+
+module _ (scan : List ℕ) (t : ℕ) where
+  -- a scan that is read at distance d: its line lies within the radius, and every such line at distance d
+  module _ (n d f g : ℕ) (p : Answers scan t (R.Line n d f g)) where
+    read-line : Within t scan (p .new)
+    unfolding Reads
+    read-line = p .reads .1 .0
+
+    read-distance : d ≡ distance scan (p .new)
+    unfolding Reads
+    read-distance = ap (λ (l : List ℕ). getD l 1 0) (p .reads .1 .1)
+
+    the-distance : (m : List ℕ) → Within t scan m → d ≡ distance scan m
+    unfolding Reads
+    the-distance m within =
+        let tests = passed (readingTests scan t W.Any (length (p .old))) 0 (p .reads .0) refl in
+        read-distance ∙ ap (distance scan) (one-within t scan (p .new) m (tests .0) (tests .1 .1 .1 .0) read-line within)
+
+    read-radius : t ≤ 5
+    unfolding Reads
+    read-radius = passed (readingTests scan t W.Any (length (p .old))) 0 (p .reads .0) refl .1 .1 .1 .0
+
+  -- a refused scan of 63 characters, the radius being at most 5: no line lies within it
+  none-near : (r : Refusal) → Answers scan t (R.Refused r) → length scan ≡ 63 → Characters scan → t ≤ 5 → (m : List ℕ) → Within t scan m → ⊥
+  none-near r p long characters small m within =
+      refusal-positive r
+      (ap (λ (z : LineReading). getD (readingNumbers z) 0 0)
+      (one-answer scan t (R.Refused r) (R.Line (number m) (distance scan m) (firstChanged scan m) (lastChanged scan m)) p
+      (record { old = p .old; new = m; room = p .room; reads = reads-line scan t (p .old) long (p .room) characters small m within })))
+
+-- a line lies within the radius of the scan that is kept; `Farther` is what holds of its distance and that of every line within the radius of the other,
+-- where that is 63 characters
+pub record Kept (Farther : ℕ → ℕ → Type 0) (t : ℕ) (kept other : List ℕ) : Type 0 where
+  pub line : List ℕ
+  pub within : Within t kept line
+  pub others : length other ≡ 63 → Characters other → (m : List ℕ) → Within t other m → Farther (distance kept line) (distance other m)
+
+module _ (x y : List ℕ) (t : ℕ) where
+  by-first : (one other : LineReading) → Answers x t one → Answers y t other → choiceOf one other ≡ First → Kept (λ d e. d ≤ e) t x y
+  by-first (R.Line n d f g) (R.Line m e h i) a b q =
+      record {
+        line = a .new;
+        within = read-line x t n d f g a;
+        others = λ _ _ l w. go l w (le-or-lt d e);
+      }
+    where
+      go : (l : List ℕ) → Within t y l → (d ≤ e) ⊎ (e < d) → distance x (a .new) ≤ distance y l
+      go l w (inl k) = omega (arith, read-distance x t n d f g a, the-distance y t m e h i b l w)
+      go l w (inr k) = absurd (let z : _≡_ {A = ℕ} 2 1 = ap scanOf (nearer d (R.Line m e h i) m e h i refl k ∙ q) in omega arith)
+  by-first (R.Line n d f g) (R.Refused s) a b q =
+      record {
+        line = a .new;
+        within = read-line x t n d f g a;
+        others = λ long characters l w. absurd (none-near y t s b long characters (read-radius x t n d f g a) l w);
+      }
+  by-first (R.Refused r) (R.Line m e h i) a b q = absurd (let z : _≡_ {A = ℕ} 2 1 = ap scanOf q in omega arith)
+  by-first (R.Refused r) (R.Refused s) a b q = absurd (let z : _≡_ {A = ℕ} 0 1 = ap scanOf q in omega arith)
+
+  by-second : (one other : LineReading) → Answers x t one → Answers y t other → choiceOf one other ≡ Second → Kept (λ d e. d < e) t y x
+  by-second (R.Line n d f g) (R.Line m e h i) a b q =
+      record {
+        line = b .new;
+        within = read-line y t m e h i b;
+        others = λ _ _ l w. go l w (le-or-lt d e);
+      }
+    where
+      go : (l : List ℕ) → Within t x l → (d ≤ e) ⊎ (e < d) → distance y (b .new) < distance x l
+      go l w (inl k) = absurd (let z : _≡_ {A = ℕ} 1 2 = ap scanOf (no-nearer d (R.Line m e h i) m e h i refl k ∙ q) in omega arith)
+      go l w (inr k) = omega (arith, read-distance y t m e h i b, the-distance x t n d f g a l w)
+  by-second (R.Line n d f g) (R.Refused s) a b q = absurd (let z : _≡_ {A = ℕ} 1 2 = ap scanOf q in omega arith)
+  by-second (R.Refused r) (R.Line m e h i) a b q =
+      record {
+        line = b .new;
+        within = read-line y t m e h i b;
+        others = λ long characters l w. absurd (none-near x t r a long characters (read-radius y t m e h i b) l w);
+      }
+  by-second (R.Refused r) (R.Refused s) a b q = absurd (let z : _≡_ {A = ℕ} 0 2 = ap scanOf q in omega arith)
+
+  by-neither : (r : Refusal) (one other : LineReading) → Answers x t one → Answers y t other → choiceOf one other ≡ Neither r
+      → ((s : Refusal) × Answers x t (R.Refused s)) × ((s : Refusal) × Answers y t (R.Refused s))
+  by-neither r (R.Line n d f g) (R.Line m e h i) a b q = go (le-or-lt d e)
+    where
+      go : (d ≤ e) ⊎ (e < d) → ((s : Refusal) × Answers x t (R.Refused s)) × ((s : Refusal) × Answers y t (R.Refused s))
+      go (inl k) = absurd (let z : _≡_ {A = ℕ} 1 0 = ap scanOf (no-nearer d (R.Line m e h i) m e h i refl k ∙ q) in omega arith)
+      go (inr k) = absurd (let z : _≡_ {A = ℕ} 2 0 = ap scanOf (nearer d (R.Line m e h i) m e h i refl k ∙ q) in omega arith)
+  by-neither r (R.Line n d f g) (R.Refused s) a b q = absurd (let z : _≡_ {A = ℕ} 1 0 = ap scanOf q in omega arith)
+  by-neither r (R.Refused o) (R.Line m e h i) a b q = absurd (let z : _≡_ {A = ℕ} 2 0 = ap scanOf q in omega arith)
+  by-neither r (R.Refused o) (R.Refused s) a b q = ((o, a), (s, b))
+
+  module _ (numbers : List ℕ) (chooses : Chooses x y t numbers) where
+    choice-is : (c : Choice) → numbers ≡ choiceNumbers c → choiceOf (chooses .one) (chooses .other) ≡ c
+    choice-is c e = one-choice-of (choiceOf (chooses .one) (chooses .other)) c (sym (chooses .shows) ∙ e)
+
+    -- the first is kept: no line within the radius of the second is nearer to it
+    pub first-nearest : numbers ≡ choiceNumbers First → Kept (λ d e. d ≤ e) t x y
+    first-nearest e = by-first (chooses .one) (chooses .other) (chooses .first-answers) (chooses .second-answers) (choice-is First e)
+
+    -- the second is kept: every line within the radius of the first is farther from it
+    pub second-nearest : numbers ≡ choiceNumbers Second → Kept (λ d e. d < e) t y x
+    second-nearest e = by-second (chooses .one) (chooses .other) (chooses .first-answers) (chooses .second-answers) (choice-is Second e)
+
+    -- neither is: no line lies within the radius of either, where that is 63 characters and the radius is at most 5
+    module _ (r : Refusal) (neither : numbers ≡ choiceNumbers (Neither r)) (small : t ≤ 5) where
+      both : ((s : Refusal) × Answers x t (R.Refused s)) × ((s : Refusal) × Answers y t (R.Refused s))
+      both = by-neither r (chooses .one) (chooses .other) (chooses .first-answers) (chooses .second-answers) (choice-is (Neither r) neither)
+
+      pub first-far : length x ≡ 63 → Characters x → (m : List ℕ) → Within t x m → ⊥
+      first-far long characters = none-near x t (both .0 .0) (both .0 .1) long characters small
+
+      pub second-far : length y ≡ 63 → Characters y → (m : List ℕ) → Within t y m → ⊥
+      second-far long characters = none-near y t (both .1 .0) (both .1 .1) long characters small

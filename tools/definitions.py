@@ -102,7 +102,7 @@ def contract(crate, function):
     """The `use` lines above a function, and the words of its signature and contract."""
     for path in sorted((CRATES / crate / "src").glob("*.rt")):
         text = path.read_text()
-        found = re.search(rf"\bfn {function}\((.*?)\n *\{{\n", text, re.DOTALL)
+        found = re.search(rf"\bfn {function}(?:<'\w+>)?\((.*?)\n *\{{\n", text, re.DOTALL)
         if found:
             return Source(crate, "contract", text), re.findall(r"[^\s(){};,:<>&]+", found.group(1))
     raise LookupError(f"{crate} has no function {function}")

@@ -13,8 +13,9 @@ use borrow.Author.Tests.{eqb-true, eqb-false, eq-eqb, ne-eqb}
 use Rattle.numbers.proofs.Cases.{same-or-not, le-or-lt}
 use Rattle.field.specs.Field.{sum}
 use Rattle.field.proofs.Laws
-use Rattle.code.specs.Word.{added, nowhere, firstFrom, lastFrom, firstChanged, lastChanged}
+use Rattle.code.specs.Word.{added, differs, distance, nowhere, firstFrom, lastFrom, firstChanged, lastChanged}
 use Rattle.code.specs.Inside.{Ends}
+use Rattle.code.proofs.Distances.{distance-self}
 
 -- two words have the same character at an address
 abbrev pub Same : List ℕ → List ℕ → ℕ → Type 0
@@ -125,6 +126,24 @@ module _ (w l : List ℕ) (e : length w ≡ length l) where
   pub last-there : (w ≡ l → ⊥) → Last w l (lastChanged w l)
   last-there d =
       ⊎-elim (λ (q : w ≡ l). absurd (d q)) (λ (f : (n : ℕ) × Last w l n). subst (Last w l) (last-at (f .0) (f .1)) (f .1)) (last-or-same w l e)
+
+-- words that differ at one address alone are at distance 1
+only-there : (n : ℕ) (w l : List ℕ) → length w ≡ length l → First w l n → Last w l n → distance w l ≡ 1
+unfolding distance
+only-there n [] l e f g = absurd (let h = f .inside in omega arith)
+only-there n (c ∷ cs) [] e f g = absurd (omega arith)
+only-there zero (c ∷ cs) (d ∷ ds) e f g =
+    ap₂ (λ (a b : ℕ). a + b) (ap differs (ne-eqb c d (f .there)))
+    (ap (λ (xs : List ℕ). distance xs ds) (tail-same cs ds (omega arith) (λ i. g .after (suc i) (omega arith))) ∙ distance-self ds)
+only-there (suc n) (c ∷ cs) (d ∷ ds) e f g =
+    ap₂ (λ (a b : ℕ). a + b) (ap differs (eq-eqb c d (f .before 0 (omega arith))))
+    (only-there n cs ds (omega arith)
+    (record { inside = (let h = f .inside in omega arith); before = λ i h. f .before (suc i) (omega arith); there = f .there })
+    (record { inside = (let h = g .inside in omega arith); after = λ i h. g .after (suc i) (omega arith); there = g .there }))
+
+pub one-there : (w l : List ℕ) → length w ≡ length l → (w ≡ l → ⊥) → firstChanged w l ≡ lastChanged w l → distance w l ≡ 1
+one-there w l e d q =
+    only-there (firstChanged w l) w l e (first-there w l e d) (subst (Last w l) (sym q) (last-there w l e d))
 
 pub nowhere-first : (w : List ℕ) → firstChanged w w ≡ nowhere
 nowhere-first = first-same 0

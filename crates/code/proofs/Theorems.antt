@@ -113,6 +113,10 @@ module _ (w l : List ℕ) (long : length w ≡ 63) (as-long : length l ≡ 63) w
   pub changed-inside : (w ≡ l → ⊥) → (firstChanged w l < nowhere) × (lastChanged w l < nowhere)
   changed-inside d = let f = first-changed d .inside in let t = last-changed d .inside in (omega arith, omega arith)
 
+  -- where they are one address, one character was changed
+  pub one-changed : (w ≡ l → ⊥) → firstChanged w l ≡ lastChanged w l → distance w l ≡ 1
+  one-changed = Changes.one-there w l (long ∙ sym as-long)
+
   pub first-to-last : firstChanged w l ≤ lastChanged w l
   first-to-last = ⊎-elim (λ (h : firstChanged w l ≤ lastChanged w l). h) never (le-or-lt (firstChanged w l) (lastChanged w l))
     where

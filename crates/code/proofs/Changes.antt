@@ -8,13 +8,14 @@ use native.Mathlib.Nat.{add-zero, zero-add}
 use native.Mathlib.Omega.{arith}
 use lib.Dec.{eqb}
 use lib.ListN.{length, getD, replicate, set, length-set}
-use lib.Seq.{getD-set-same, getD-set-other}
+use lib.Seq.{ext-getD, getD-set-same, getD-set-other}
 use borrow.Author.Tests.{eqb-true, eqb-false, eq-eqb, ne-eqb}
-use Rattle.numbers.proofs.Cases.{same-or-not, le-or-lt}
+use Rattle.numbers.proofs.Cases.{same-or-not}
 use Rattle.field.specs.Field.{sum}
 use Rattle.field.proofs.Laws
 use Rattle.code.specs.Word.{added, differs, distance, nowhere, firstFrom, lastFrom, firstChanged, lastChanged}
 use Rattle.code.specs.Inside.{Ends}
+use Rattle.code.proofs.Words.{cons, zero-get}
 use Rattle.code.proofs.Distances.{distance-self}
 
 -- two words have the same character at an address
@@ -60,7 +61,7 @@ first-or-same (c ∷ cs) (d ∷ ds) e =
     (λ (q : c ≡ d → ⊥). inr (0, record { inside = omega arith; before = λ i h. absurd (omega arith); there = q })) (same-or-not c d)
   where
     pick : c ≡ d → (cs ≡ ds) ⊎ ((n : ℕ) × First cs ds n) → (c ∷ cs ≡ d ∷ ds) ⊎ ((n : ℕ) × First (c ∷ cs) (d ∷ ds) n)
-    pick q (inl r) = inl (ap₂ (λ (x : ℕ) (xs : List ℕ). x ∷ xs) q r)
+    pick q (inl r) = inl (cons q r)
     pick q (inr (n, f)) = inr (suc n, record { inside = (let h = f .inside in omega arith); before = before; there = f .there })
       where
         before : (i : ℕ) → i < suc n → Same (c ∷ cs) (d ∷ ds) i
@@ -81,7 +82,7 @@ last-or-same (c ∷ cs) [] e = absurd (omega arith)
 last-or-same (c ∷ cs) (d ∷ ds) e = pick (last-or-same cs ds (omega arith)) (same-or-not c d)
   where
     pick : (cs ≡ ds) ⊎ ((n : ℕ) × Last cs ds n) → (c ≡ d) ⊎ (c ≡ d → ⊥) → (c ∷ cs ≡ d ∷ ds) ⊎ ((n : ℕ) × Last (c ∷ cs) (d ∷ ds) n)
-    pick (inl r) (inl q) = inl (ap₂ (λ (x : ℕ) (xs : List ℕ). x ∷ xs) q r)
+    pick (inl r) (inl q) = inl (cons q r)
     pick (inl r) (inr q) = inr (0, record { inside = omega arith; after = after; there = q })
       where
         after : (i : ℕ) → 0 < i → Same (c ∷ cs) (d ∷ ds) i
@@ -93,17 +94,13 @@ last-or-same (c ∷ cs) (d ∷ ds) e = pick (last-or-same cs ds (omega arith)) (
         after zero h = absurd (omega arith)
         after (suc i) h = f .after i (omega arith)
 
--- words that differ nowhere after their first character
-tail-same : (cs ds : List ℕ) → length cs ≡ length ds → ((i : ℕ) → Same cs ds i) → cs ≡ ds
-tail-same cs ds e s = ⊎-elim (λ (q : cs ≡ ds). q) (λ (f : (n : ℕ) × First cs ds n). absurd (f .1 .there (s (f .0)))) (first-or-same cs ds e)
-
 last-is : (a b n : ℕ) (w l : List ℕ) → length w ≡ length l → Last w l n → lastFrom a b w l ≡ a + n
 unfolding lastFrom
 last-is a b n [] l e f = absurd (let h = f .inside in omega arith)
 last-is a b n (c ∷ cs) [] e f = absurd (omega arith)
 last-is a b zero (c ∷ cs) (d ∷ ds) e f =
     ap (λ (t : Bool). lastFrom (suc a) (cond t b a) cs ds) (ne-eqb c d (f .there))
-    ∙ ap (λ (xs : List ℕ). lastFrom (suc a) a xs ds) (tail-same cs ds (omega arith) (λ i. f .after (suc i) (omega arith)))
+    ∙ ap (λ (xs : List ℕ). lastFrom (suc a) a xs ds) (ext-getD 0 cs ds (omega arith) (λ i _. f .after (suc i) (omega arith)))
     ∙ last-same (suc a) a ds ∙ sym (add-zero a)
 last-is a b (suc n) (c ∷ cs) (d ∷ ds) e f =
     last-is (suc a) (cond (eqb c d) b a) n cs ds (omega arith)
@@ -134,7 +131,7 @@ only-there n [] l e f g = absurd (let h = f .inside in omega arith)
 only-there n (c ∷ cs) [] e f g = absurd (omega arith)
 only-there zero (c ∷ cs) (d ∷ ds) e f g =
     ap₂ (λ (a b : ℕ). a + b) (ap differs (ne-eqb c d (f .there)))
-    (ap (λ (xs : List ℕ). distance xs ds) (tail-same cs ds (omega arith) (λ i. g .after (suc i) (omega arith))) ∙ distance-self ds)
+    (ap (λ (xs : List ℕ). distance xs ds) (ext-getD 0 cs ds (omega arith) (λ i _. g .after (suc i) (omega arith))) ∙ distance-self ds)
 only-there (suc n) (c ∷ cs) (d ∷ ds) e f g =
     ap₂ (λ (a b : ℕ). a + b) (ap differs (eq-eqb c d (f .before 0 (omega arith))))
     (only-there n cs ds (omega arith)
@@ -188,11 +185,6 @@ ends-added w x l f t h k g e =
 
 -- ---- errors that are set one below another
 
-zero-at : (n k : ℕ) → _≡_ {A = ℕ} (getD (replicate n 0) k 0) 0
-zero-at zero k = refl
-zero-at (suc n) zero = refl
-zero-at (suc n) (suc k) = zero-at n k
-
 pub ends-none : Ends (replicate 63 0) (replicate 63 0) nowhere nowhere
 ends-none = record { from = sym (nowhere-first (replicate 63 0)); to = sym (nowhere-last (replicate 63 0)) }
 
@@ -206,7 +198,7 @@ module _ (x : List ℕ) (a v f t : ℕ) (long : length x ≡ 63) (inside : a < 6
   here = getD-set-same x a v 0 (omega arith)
 
   differs-here : Same (replicate 63 0) (set x a v) a → ⊥
-  differs-here q = some (sym (sym (zero-at 63 a) ∙ q ∙ here))
+  differs-here q = some (sym (sym (zero-get 63 a) ∙ q ∙ here))
 
   other : (i : ℕ) → (i ≡ a → ⊥) → getD (set x a v) i 0 ≡ getD x i 0
   other i d = getD-set-other x a i v 0 d
@@ -217,7 +209,7 @@ module _ (x : List ℕ) (a v f t : ℕ) (long : length x ≡ 63) (inside : a < 6
       first-at (replicate 63 0) (set x a v) set-long a
       (record {
         inside = inside;
-        before = λ i h. zero-at 63 i ∙ sym (other i (λ q. omega arith) ∙ none i (omega arith));
+        before = λ i h. zero-get 63 i ∙ sym (other i (λ q. omega arith) ∙ none i (omega arith));
         there = differs-here;
       })
 
@@ -254,4 +246,4 @@ module _ (x : List ℕ) (a v f t : ℕ) (long : length x ≡ 63) (inside : a < 6
     where
       -- it lies beyond a, for up to a nothing stands
       beyond : Last (replicate 63 0) x t → t ≤ a → ⊥
-      beyond l h = l .there (zero-at 63 t ∙ sym (none t h))
+      beyond l h = l .there (zero-get 63 t ∙ sym (none t h))

@@ -20,6 +20,12 @@ cons p q = ap₂ (λ (c : ℕ) (cs : List ℕ). c ∷ cs) p q
 pub same-word : (u v : List ℕ) → length u ≡ 63 → length v ≡ 63 → ((a : ℕ) → a < 63 → getD u a 0 ≡ getD v a 0) → u ≡ v
 same-word u v hu hv h = ext-getD 0 u v (hu ∙ sym hv) (λ a l. h a (subst (λ (n : ℕ). a < n) hu l))
 
+-- zeros have 0 at every address, and past their end too
+pub zero-get : (n k : ℕ) → _≡_ {A = ℕ} (getD (replicate n 0) k 0) 0
+zero-get zero k = refl
+zero-get (suc n) zero = refl
+zero-get (suc n) (suc k) = zero-get n k
+
 -- past its end a word has 0
 pub characters-below : (w : List ℕ) (n : ℕ) → length w ≤ n → ((a : ℕ) → a < n → getD w a 0 < 64) → Characters w
 characters-below w n l h a =

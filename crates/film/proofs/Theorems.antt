@@ -1,10 +1,9 @@
 -- The library's theorems: any two results that a function allows are equal, its struct and its output.
-use mathlib.Core.Path.{_≡_, refl, sym, ap, ap₂, _∙_}
+use mathlib.Core.Path.{_≡_, sym, ap, ap₂, _∙_}
 use mathlib.Core.List.{List, [], _∷_}
-use Prim.Native.Nat.{ℕ, _≤_}
-use native.Mathlib.Omega.{arith}
+use Prim.Native.Nat.{ℕ}
 use lib.ListN.{length, getD, drop}
-use Rattle.refusal.proofs.Theorems.{one-result, one-reply}
+use Rattle.refusal.proofs.Theorems.{one-result}
 use Rattle.field.specs.Promises as Field
 use Rattle.field.proofs.Theorems.{same-sums, same-products, same-quotients}
 use Rattle.encoder.specs.declared.Register.{Register}

@@ -1,9 +1,9 @@
 -- The word that is found is the one that fits, and where a test fails none does; from errors to the nearest word with given sums.
-use mathlib.Core.Path.{_≡_, refl, sym, ap, _∙_, subst}
+use mathlib.Core.Path.{_≡_, sym, ap, _∙_, subst}
 use mathlib.Core.Bool.{Bool, true, false, cond}
 use mathlib.Core.Logic.{inl, inr, ⊎-elim}
 use mathlib.Core.List.{List}
-use Prim.Native.Nat.{ℕ, zero, suc, min, _+_, _-_, _/_, _<_, _≤_}
+use Prim.Native.Nat.{ℕ, min, _+_, _-_, _/_, _<_, _≤_}
 use native.Mathlib.Nat.{le-trans, le-of-eq}
 use native.Mathlib.Omega.{arith}
 use lib.ListN.{getD, length, replicate, List·getD-eq-default}
@@ -18,7 +18,7 @@ use Rattle.polynomial.specs.Sums.{weight}
 use Rattle.polynomial.specs.Polynomial.{polyAt, over}
 use Rattle.code.specs.Word.{Characters, powerSum, Clean, added, distance}
 use Rattle.code.specs.Inside.{PowerSums, Ends}
-use Rattle.code.proofs.Words.{characters-below, length-added, added-get, characters-added}
+use Rattle.code.proofs.Words.{zero-get, characters-below, length-added, added-get, characters-added}
 use Rattle.code.proofs.Distances.{distance-weight, distance-added}
 use Rattle.code.proofs.Sums.{powerSum-added}
 use Rattle.mender.specs.declared.Mended.{Mended}
@@ -230,14 +230,9 @@ nearest-as P Q w e m to from n =
       no-word = n .no-word;
     }
 
-zeros-at : (n k : ℕ) → _≡_ {A = ℕ} (getD (replicate n 0) k 0) 0
-zeros-at zero k = refl
-zeros-at (suc n) zero = refl
-zeros-at (suc n) (suc k) = zeros-at n k
-
 -- the clean words are those whose sums are all 0
 pub nearest-clean : (w : List ℕ) (e : ℕ) (m : Mended) → Nearest (HasSums (replicate 11 0)) w e m → Nearest Clean w e m
 nearest-clean w e m n =
     nearest-as (HasSums (replicate 11 0)) Clean w e m
-    (λ v y. record { long = y .word .long; characters = y .word .characters; sums = λ k h. y .sums k h ∙ zeros-at 11 k })
-    (λ v y. record { word = record { long = y .long; characters = y .characters }; sums = λ k h. y .sums k h ∙ sym (zeros-at 11 k) }) n
+    (λ v y. record { long = y .word .long; characters = y .word .characters; sums = λ k h. y .sums k h ∙ zero-get 11 k })
+    (λ v y. record { word = record { long = y .long; characters = y .characters }; sums = λ k h. y .sums k h ∙ sym (zero-get 11 k) }) n

@@ -19,6 +19,7 @@ use Rattle.polynomial.specs.Sums.{weight, nonzero}
 use Rattle.code.specs.Word.{Characters, powerSum}
 use Rattle.code.specs.declared.Eleven.{Eleven}
 use Rattle.code.specs.Held.{eleven}
+use Rattle.code.proofs.Words.{zero-get}
 use Rattle.code.proofs.Holding.{eleven-first, eleven-last, eleven-characters}
 use Rattle.code.proofs.Sums.{powerSum-set}
 use Rattle.mender.proofs.Finding.{true-false}
@@ -27,11 +28,6 @@ use Rattle.mender.specs.declared.Single.{Single}
 use Rattle.mender.specs.Found.{lone, OneError}
 
 -- ---- the word with one character
-
-pub zero-get : (n k : ℕ) → _≡_ {A = ℕ} (getD (replicate n 0) k 0) 0
-zero-get zero k = refl
-zero-get (suc n) zero = refl
-zero-get (suc n) (suc k) = zero-get n k
 
 pub lone-long : (a v : ℕ) → length (lone a v) ≡ 63
 unfolding lone

@@ -3,7 +3,7 @@ use mathlib.Core.Path.{_≡_, refl, sym, ap, ap₂, _∙_, subst}
 use mathlib.Core.Bool.{Bool, true, false}
 use mathlib.Core.Logic.{⊎-elim}
 use mathlib.Core.List.{List}
-use Prim.Native.Nat.{ℕ, zero, min, _+_, _-_, _*_, _/_, _%_, _<_, _≤_}
+use Prim.Native.Nat.{ℕ, zero, min, _+_, _*_, _/_, _%_, _<_, _≤_}
 use native.Mathlib.Nat.{le-trans, le-of-eq}
 use native.Mathlib.Omega.{arith}
 use borrow.Author.Count.{below-more}
@@ -23,7 +23,7 @@ use Rattle.code.specs.Word.{Characters, added}
 use Rattle.code.specs.Inside.{PowerSums, Ends}
 use Rattle.code.specs.declared.Eleven.{Eleven}
 use Rattle.code.specs.Held.{eleven, lowered}
-use Rattle.code.proofs.Words.{listed-get, length-added, added-get}
+use Rattle.code.proofs.Words.{zero-get, listed-get, length-added, added-get}
 use Rattle.code.proofs.Sums.{powerSum-lt}
 use Rattle.code.proofs.Changes.{ends-none, ends-one, ends-added}
 use Rattle.code.proofs.Holding.{eleven-first, eleven-last, eleven-long, eleven-characters}
@@ -32,7 +32,7 @@ use Rattle.mender.specs.declared.Single.{Single}
 use Rattle.mender.specs.Mender.{Fits, MendsTo, Mends, Nearest, HasSums}
 use Rattle.mender.specs.Inside.{Nothing}
 use Rattle.mender.specs.Found.{lone, OneError, ElementsTo, Clear, Repairs, sixth}
-use Rattle.mender.proofs.OneError.{zero-get, lone-long, lone-here, lone-other, lone-weight, weight-nothing, sums-nothing}
+use Rattle.mender.proofs.OneError.{lone-long, lone-here, lone-other, lone-weight, weight-nothing, sums-nothing}
 use Rattle.mender.proofs.Finding.{true-false, found-none, none-near, one-near, nearest-none, mended}
 
 -- ---- whether the first c sums are elements

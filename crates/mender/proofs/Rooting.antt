@@ -14,7 +14,6 @@ use borrow.Author.Tests.{eq-eqb, ne-eqb}
 use Rattle.numbers.proofs.Cases.{le-or-lt, same-or-not, pos-of-not-zero}
 use Rattle.numbers.proofs.Bits.{halved}
 use Rattle.field.specs.Field.{product, α, power}
-use Rattle.field.specs.Inside.{inverse}
 use Rattle.field.proofs.Totals.{total-same}
 use Rattle.lanes.specs.Lanes.{lane}
 use Rattle.lanes.proofs.Laws.{lane-lt, lane-zero, lane-suc, lane-after, lane-pack, pack-lanes}
@@ -23,6 +22,7 @@ use Rattle.polynomial.specs.Polynomial.{polyAt}
 use Rattle.planes.specs.Roots.{RootsOf}
 use Rattle.planes.proofs.Theorems.{set-root, clear-other}
 use Rattle.code.specs.Inside.{Ends}
+use Rattle.code.proofs.Words.{zero-get}
 use Rattle.code.proofs.Distances.{weight-le}
 use Rattle.code.proofs.Changes.{ends-none, ends-one, ends-more}
 use Rattle.mender.specs.declared.Pattern.{Pattern}
@@ -31,7 +31,7 @@ use Rattle.mender.specs.Found.{RootFrom, Patterned}
 use Rattle.mender.specs.Rows.{Coefficients}
 use Rattle.mender.specs.Values.{rootAfter, rootAt, numeratorAt, denominatorAt, numeratorOf, denominatorOf, quotientAt, FractionIn, QuotientsAhead, QuotientNext, Placed, lastOf, Kills, inverseOrNone}
 use Rattle.mender.specs.declared.Ahead.{Ahead}
-use Rattle.mender.proofs.OneError.{zero-get, weight-set, weight-nothing, nonzero-pos}
+use Rattle.mender.proofs.OneError.{weight-set, weight-nothing, nonzero-pos}
 use Rattle.mender.proofs.Locating.{coefficients-small}
 use Rattle.mender.proofs.Fractions.{window-is, slope-is, value-is-quotient}
 use Rattle.mender.proofs.Valuing.{root-after}

@@ -50,28 +50,30 @@ one-choice x y t m n p q =
     ∙ ap (λ (r : LineReading). choiceNumbers (choiceOf (q .one) r)) (one-answer y t (p .other) (q .other) (p .second-answers) (q .second-answers))
     ∙ sym (q .shows)
 
-module _ (x y r s : RefT (List ℕ)) where
+-- what choosing allows fixes what is handed back and the answer: so what follows of choosing is said of handing back too
+pub handed-back : (x y r : RefT (List ℕ)) (t n : ℕ) → Better x y t r n → (c : Choice) → Chooses (now x) (now y) t (choiceNumbers c)
+    → Hands c x y r × (n ≡ answerOf c)
+handed-back x y r t n p c q =
+    let e : p .choice ≡ c =
+    one-choice-of (p .choice) c (one-choice (now x) (now y) t (choiceNumbers (p .choice)) (choiceNumbers c) (p .chooses) q) in
+    (subst (λ (d : Choice). Hands d x y r) e (p .hands), p .answer ∙ ap answerOf e)
+
+module _ (x y r s : RefT (List ℕ)) (t : ℕ) where
   one-handed : (c : Choice) → Hands c x y r → Hands c x y s → (now r ≡ now s) × (ptr r ≡ ptr s)
   one-handed First p q = (ap (λ (z : RefT (List ℕ)). now z) (p ∙ sym q), ap (λ (z : RefT (List ℕ)). ptr z) (p ∙ sym q))
   one-handed Second p q = (ap (λ (z : RefT (List ℕ)). now z) (p ∙ sym q), ap (λ (z : RefT (List ℕ)). ptr z) (p ∙ sym q))
   one-handed (Neither why) p q = (p .0 ∙ sym (q .0), p .1 ∙ sym (q .1))
 
-  -- and so are any two results of handing a scan back: the bytes, the place where they stand, and the answer
-  pub one-better : (t m n : ℕ) → Better x y t r m → Better x y t s n → (now r ≡ now s) × (ptr r ≡ ptr s) × (m ≡ n)
-  one-better t m n p q =
-      let e : choiceNumbers (p .choice) ≡ choiceNumbers (q .choice) =
-      one-choice (now x) (now y) t (choiceNumbers (p .choice)) (choiceNumbers (q .choice)) (p .chooses) (q .chooses) in
-      let h = one-handed (q .choice) (subst (λ (c : Choice). Hands c x y r) (one-choice-of (p .choice) (q .choice) e) (p .hands)) (q .hands) in
-      (h .0, h .1, p .answer ∙ ap (λ (l : List ℕ). getD l 0 0) e ∙ sym (q .answer))
+  -- any two results of handing a scan back are equal: the bytes, the place where they stand, and the answer
+  pub one-better : (m n : ℕ) → Better x y t r m → Better x y t s n → (now r ≡ now s) × (ptr r ≡ ptr s) × (m ≡ n)
+  one-better m n p q =
+      let b = handed-back x y r t m p (q .choice) (q .chooses) in
+      let h = one-handed (q .choice) (b .0) (q .hands) in
+      (h .0, h .1, b .1 ∙ sym (q .answer))
 
   -- where a scan is kept, also the reference as a whole, with the name under which its value is tracked; of an empty part that name is left open
-  pub one-kept : (t : ℕ) → Better x y t r 0 → Better x y t s 0 → r ≡ s
-  one-kept t p q =
-      same (q .choice) (sym (q .answer))
-      (subst (λ (c : Choice). Hands c x y r)
-      (one-choice-of (p .choice) (q .choice)
-      (one-choice (now x) (now y) t (choiceNumbers (p .choice)) (choiceNumbers (q .choice)) (p .chooses) (q .chooses))) (p .hands))
-      (q .hands)
+  pub one-kept : Better x y t r 0 → Better x y t s 0 → r ≡ s
+  one-kept p q = same (q .choice) (sym (q .answer)) (handed-back x y r t 0 p (q .choice) (q .chooses) .0) (q .hands)
     where
       same : (c : Choice) → answerOf c ≡ 0 → Hands c x y r → Hands c x y s → r ≡ s
       same First e f g = f ∙ sym g

@@ -83,9 +83,23 @@ module _ (w : List ℕ) (t : ℕ) (old : List ℕ) (long : length w ≡ 63) (roo
       let z : _≡_ {A = ℕ} 6 0 = ap (λ (k : List ℕ). getD k 0 0) (e .0) in
       omega arith
 
--- ---- where the word was changed, for every word, every radius, every wanted number and whatever lay in the output: in a success the output differs from
--- the word at the first changed address and at the last, and nowhere before the one or after the other; where it does not differ both are 63
+-- ---- where the word was changed
 
+-- what is told of a line l that is read from w: they differ at the first changed address and at the last, and nowhere before the one or after the other;
+-- where they do not differ both are 63
+module _ (w l : List ℕ) (n d f g : ℕ) (long : length w ≡ 63) (line : Line l) (tells : n ∷ d ∷ f ∷ g ∷ [] ≡ told w l) where
+  pub told-first : (w ≡ l → ⊥) → First w l f
+  told-first c = subst (First w l) (sym (ap (λ (z : List ℕ). getD z 2 0) tells)) (first-changed w l long (line-long l line) c)
+
+  pub told-last : (w ≡ l → ⊥) → Last w l g
+  told-last c = subst (Last w l) (sym (ap (λ (z : List ℕ). getD z 3 0) tells)) (last-changed w l long (line-long l line) c)
+
+  pub told-unchanged : w ≡ l → (f ≡ nowhere) × (g ≡ nowhere)
+  told-unchanged e =
+      let u = unchanged w l long (line-long l line) e in
+      (ap (λ (z : List ℕ). getD z 2 0) tells ∙ u .0, ap (λ (z : List ℕ). getD z 3 0) tells ∙ u .1)
+
+-- so in every success, for every word, every radius, every wanted number and whatever lay in the output
 module _ (w : List ℕ) (t : ℕ) (wanted : Wanted) (old : List ℕ) (n d f g : ℕ) (x : List ℕ) (reads : Reads w t wanted old (readingNumbers (R.Line n d f g)) x) where
   word-long : length w ≡ 63
   unfolding Reads
@@ -95,20 +109,14 @@ module _ (w : List ℕ) (t : ℕ) (wanted : Wanted) (old : List ℕ) (n d f g : 
   unfolding Reads
   line-read = reads .1
 
-  first-is : f ≡ firstChanged w x
-  first-is = ap (λ (l : List ℕ). getD l 2 0) (line-read .1)
-
-  last-is : g ≡ lastChanged w x
-  last-is = ap (λ (l : List ℕ). getD l 3 0) (line-read .1)
-
   pub read-first : (w ≡ x → ⊥) → First w x f
-  read-first c = subst (First w x) (sym first-is) (first-changed w x word-long (line-long x (line-read .0 .line)) c)
+  read-first = told-first w x n d f g word-long (line-read .0 .line) (line-read .1)
 
   pub read-last : (w ≡ x → ⊥) → Last w x g
-  read-last c = subst (Last w x) (sym last-is) (last-changed w x word-long (line-long x (line-read .0 .line)) c)
+  read-last = told-last w x n d f g word-long (line-read .0 .line) (line-read .1)
 
   pub read-unchanged : w ≡ x → (f ≡ nowhere) × (g ≡ nowhere)
-  read-unchanged e = let u = unchanged w x word-long (line-long x (line-read .0 .line)) e in (first-is ∙ u .0, last-is ∙ u .1)
+  read-unchanged = told-unchanged w x n d f g word-long (line-read .0 .line) (line-read .1)
 
 -- any two answers of looking for the nearest line are equal
 pub one-nearest-line : (w : List ℕ) (t : ℕ) (m n : Mended) → NearestLine w t m → NearestLine w t n → m ≡ n

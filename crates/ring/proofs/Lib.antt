@@ -1,4 +1,4 @@
--- The laws of starts, of recordings, of the marks at them and of false starts, the turns of the code, the ways out of listing and reading, and the theorems.
+-- The laws of starts, of recordings, of the marks at them and of false starts, the turns of the code, the ways out of listing and reading, where a word was changed, and the theorems.
 pub mod Placing
 pub mod Recording
 pub mod Marks
@@ -9,4 +9,5 @@ pub mod Starts
 pub mod Filtering
 pub mod Turns
 pub mod Ways
+pub mod Changed
 pub mod Theorems

@@ -1,4 +1,4 @@
--- What is proved of rings, in the words of the rules and of the requests: the word at a start, a line's recording, the list, where the word was changed, the true start alone, the false starts of an undamaged ring, a known direction, a dark ring, the marks at the starts, and one result.
+-- What is proved of rings, in the words of the rules and of the requests: the word at a start, a line's recording, the list, the true start alone, the false starts of an undamaged ring, a known direction, a dark ring, the marks at the starts, and one result.
 use mathlib.Core.Path.{_≡_, refl, sym, ap, ap₂, _∙_, subst}
 use mathlib.Core.Bool.{true, true≢false}
 use mathlib.Core.Logic.{inl}
@@ -12,13 +12,12 @@ use Rattle.refusal.specs.Number.{numberOf}
 use Rattle.refusal.proofs.Laws.{one-refusal, refusal-positive, one-answer}
 use Rattle.refusal.proofs.Theorems.{one-result, same-numbers}
 use Rattle.polynomial.specs.Sums.{nonzero, weight}
-use Rattle.code.specs.Word.{Characters, marks, Line, number, distance, nowhere, firstChanged, lastChanged, listed, reversed}
+use Rattle.code.specs.Word.{Characters, marks, Line, number, distance, firstChanged, lastChanged, listed, reversed}
 use Rattle.code.proofs.Words.{listed-long}
 use Rattle.code.proofs.Distances.{distance-weight, distance-self, weight-added}
 use Rattle.code.proofs.Lines.{line-long, line-characters, marks-weight}
 use Rattle.code.proofs.Turning.{turned-get, reversed-get}
-use Rattle.code.proofs.Changes.{First, Last}
-use Rattle.code.proofs.Theorems.{zero-line, first-changed, last-changed, unchanged}
+use Rattle.code.proofs.Theorems.{zero-line}
 use Rattle.line.specs.Promises.{Within, told}
 use Rattle.line.proofs.Theorems.{one-within}
 use Rattle.ring.specs.declared.RingListing.{RingListing}
@@ -180,36 +179,6 @@ module _ (ring : List ℕ) (t : ℕ) (long : length ring ≡ 63) (characters : C
     inl (long, inl (room, inl (characters, inl (small, inl ((k ∷ [], only, omega arith), inl ((k ∷ [], only, omega arith), refl)))))),
     record { start = k; only = only; within = within; shows = refl },
   )
-
--- ---- where the word was changed, for every ring, every radius and whatever lay in the output: in a success the output differs from the word at the start
--- at the first changed address and at the last, and nowhere before the one or after the other; where it does not differ both are 63
-
-module _ (ring : List ℕ) (t : ℕ) (old : List ℕ) (k n d f g : ℕ) (x : List ℕ) (reads : ReadsRing ring t old (readingNumbers (R.Line k n d f g)) x) where
-  read-there : ReadsAt ring t (k ∷ n ∷ d ∷ f ∷ g ∷ []) x
-  unfolding ReadsRing
-  read-there = reads .1
-
-  told-there : n ∷ d ∷ f ∷ g ∷ [] ≡ told (placed k ring) x
-  told-there =
-      let e : k ≡ read-there .start = ap (λ (l : List ℕ). getD l 0 0) (read-there .shows) in
-      ap (drop 1) (read-there .shows) ∙ ap (λ (j : ℕ). told (placed j ring) x) (sym e)
-
-  first-is : f ≡ firstChanged (placed k ring) x
-  first-is = ap (λ (l : List ℕ). getD l 2 0) told-there
-
-  last-is : g ≡ lastChanged (placed k ring) x
-  last-is = ap (λ (l : List ℕ). getD l 3 0) told-there
-
-  pub read-first : (placed k ring ≡ x → ⊥) → First (placed k ring) x f
-  read-first c =
-      subst (First (placed k ring) x) (sym first-is) (first-changed (placed k ring) x (kept k .long ring) (line-long x (read-there .within .line)) c)
-
-  pub read-last : (placed k ring ≡ x → ⊥) → Last (placed k ring) x g
-  read-last c = subst (Last (placed k ring) x) (sym last-is) (last-changed (placed k ring) x (kept k .long ring) (line-long x (read-there .within .line)) c)
-
-  pub read-unchanged : placed k ring ≡ x → (f ≡ nowhere) × (g ≡ nowhere)
-  read-unchanged e =
-      let u = unchanged (placed k ring) x (kept k .long ring) (line-long x (read-there .within .line)) e in (first-is ∙ u .0, last-is ∙ u .1)
 
 -- ---- the step below demand 3: the word at start k lies at distance e from the line l, e is at most the radius t, and e + t at most 3
 

@@ -214,7 +214,6 @@ static row rows[] = {
     {"read_4", READ, 4, 5, {ours_read, fec_read, second_read}, {{0}}, {0}},
     {"read_5", READ, 5, 5, {ours_read, fec_read, second_read}, {{0}}, {0}},
     {"read_6_refused", READ, 6, 5, {ours_read, fec_read, second_read}, {{0}}, {0}},
-    {"better_scan", SCANS, 1, 5, {ours_better, fec_better, second_better}, {{0}}, {0}},
     {"list_clean_radius_5", RING, 0, 5, {ours_list, fec_list, second_list}, {{0}}, {0}},
     {"list_2_errors_radius_5", RING, 2, 5, {ours_list, fec_list, second_list}, {{0}}, {0}},
     {"list_noise_radius_5", NOISE, 0, 5, {ours_list, fec_list, second_list}, {{0}}, {0}},
@@ -224,6 +223,7 @@ static row rows[] = {
     {"block_9_rows", BLOCK, 0, 0, {ours_block, plain_block, second_block}, {{0}}, {0}},
     {"products_62", FIELD, 0, 0, {ours_products, plain_products, second_products}, {{0}}, {0}},
     {"quotients_62", FIELD, 0, 0, {ours_quotients, plain_quotients, second_quotients}, {{0}}, {0}},
+    {"better_scan", SCANS, 1, 5, {ours_better, fec_better, second_better}, {{0}}, {0}},
 };
 
 enum { ROWS = sizeof rows / sizeof rows[0] };

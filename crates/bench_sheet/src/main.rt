@@ -99,8 +99,7 @@ fn print_line(title: &[u8], word: [u8; 63], radius: u8, wanted: Wanted) {
         LineReading::Line {
             number,
             distance,
-            first: _,
-            last: _,
+            ..
         } => {
             print(b" number");
             print_number(number as u64);

@@ -250,8 +250,7 @@ fn line_fields(radius: u8, word: &[u8]) -> [u16; 3]
         LineReading::Line {
             number,
             distance,
-            first: _,
-            last: _,
+            ..
         } => [0, distance as u16, number],
         LineReading::Refused(why) => refused(why),
     }
@@ -266,10 +265,8 @@ fn ring_fields(radius: u8, word: &[u8]) -> [u16; 3]
     match reading {
         RingReading::Line {
             start,
-            number: _,
             distance,
-            first: _,
-            last: _,
+            ..
         } => [0, start as u16, distance as u16],
         RingReading::Refused(why) => refused(why),
     }

@@ -1,10 +1,13 @@
 -- What the choice is, case by case, and each way in which a scan is handed back.
 use mathlib.Core.Path.{_≡_, refl, sym, ap, _∙_, subst}
 use mathlib.Core.Bool.{Bool, cond}
+use mathlib.Core.Logic.{⊎-elim}
 use mathlib.Core.List.{List, [], _∷_}
 use Prim.Native.Nat.{ℕ, _<_, _≤_}
+use native.Mathlib.Omega.{arith}
 use borrow.Author.Tests.{lt-ltb, le-ltb}
 use denote.Ref.{RefT, now, ptr}
+use Rattle.numbers.proofs.Cases.{le-or-lt}
 use Rattle.refusal.specs.declared.Refusal.{Refusal}
 use Rattle.refusal.specs.Number.{numberOf}
 use Rattle.line.specs.declared.LineReading.{LineReading}
@@ -12,7 +15,7 @@ use Rattle.line.specs.declared.LineReading.the-variants as R
 use Rattle.scans.specs.declared.Choice.{Choice}
 use Rattle.scans.specs.declared.Choice.the-variants.{First, Second, Neither}
 use Rattle.scans.specs.Scans.{Answers, besideOf, insteadOf, choiceOf}
-use Rattle.scans.specs.Promises.{choiceNumbers, Chooses, Better}
+use Rattle.scans.specs.Promises.{scanOf, choiceNumbers, Chooses, Better}
 
 -- ---- the choice by the two answers
 
@@ -25,6 +28,25 @@ module _ (d : ℕ) (other : LineReading) where
 
   pub alone : (r : Refusal) → other ≡ R.Refused r → First ≡ besideOf d other
   alone r q = sym (ap (besideOf d) q)
+
+-- and the other way about: what the choice says of the distances
+module _ (d m e h i : ℕ) where
+  pub not-farther : besideOf d (R.Line m e h i) ≡ First → d ≤ e
+  not-farther q = ⊎-elim (λ (k : d ≤ e). k) never (le-or-lt d e)
+    where
+      never : e < d → d ≤ e
+      never k = absurd (let z : _≡_ {A = ℕ} 2 1 = ap scanOf (nearer d (R.Line m e h i) m e h i refl k ∙ q) in omega arith)
+
+  pub farther : besideOf d (R.Line m e h i) ≡ Second → e < d
+  farther q = ⊎-elim never (λ (k : e < d). k) (le-or-lt d e)
+    where
+      never : d ≤ e → e < d
+      never k = absurd (let z : _≡_ {A = ℕ} 1 2 = ap scanOf (no-nearer d (R.Line m e h i) m e h i refl k ∙ q) in omega arith)
+
+  pub not-neither : (r : Refusal) → besideOf d (R.Line m e h i) ≡ Neither r → ⊥
+  not-neither r q =
+      ⊎-elim (λ (k : d ≤ e). let z : _≡_ {A = ℕ} 1 0 = ap scanOf (no-nearer d (R.Line m e h i) m e h i refl k ∙ q) in omega arith)
+      (λ (k : e < d). let z : _≡_ {A = ℕ} 2 0 = ap scanOf (nearer d (R.Line m e h i) m e h i refl k ∙ q) in omega arith) (le-or-lt d e)
 
 module _ (why : Refusal) (other : LineReading) where
   pub second-alone : (n e f g : ℕ) → other ≡ R.Line n e f g → Second ≡ insteadOf why other

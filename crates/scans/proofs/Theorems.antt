@@ -6,7 +6,6 @@ use Prim.Native.Nat.{ℕ, _<_, _≤_}
 use native.Mathlib.Omega.{arith}
 use lib.ListN.{length, getD}
 use denote.Ref.{RefT, now, ptr}
-use Rattle.numbers.proofs.Cases.{le-or-lt}
 use Rattle.refusal.specs.declared.Refusal.{Refusal}
 use Rattle.refusal.specs.declared.Refusal.the-variants.{InputLength, ValueOver, RadiusOver, NoLine}
 use Rattle.refusal.specs.Number.{numberOf}
@@ -22,7 +21,7 @@ use Rattle.scans.specs.declared.Choice.{Choice}
 use Rattle.scans.specs.declared.Choice.the-variants.{First, Second, Neither}
 use Rattle.scans.specs.Scans.{Answers, choiceOf}
 use Rattle.scans.specs.Promises.{answerOf, scanOf, choiceNumbers, Chooses, Hands, Better}
-use Rattle.scans.proofs.Laws.{nearer, no-nearer}
+use Rattle.scans.proofs.Laws.{nearer, no-nearer, not-farther, farther, not-neither}
 
 -- ---- one result
 
@@ -173,54 +172,36 @@ pub record Kept (Farther : ℕ → ℕ → Type 0) (t : ℕ) (kept other : List 
   pub within : Within t kept line
   pub others : length other ≡ 63 → Characters other → (m : List ℕ) → Within t other m → Farther (distance kept line) (distance other m)
 
+-- it is, where it is read at a distance of which that holds
+kept-at : (Farther : ℕ → ℕ → Type 0) (t : ℕ) (kept other : List ℕ) (n d f g : ℕ) → Answers kept t (R.Line n d f g)
+    → (length other ≡ 63 → Characters other → (m : List ℕ) → Within t other m → Farther d (distance other m)) → Kept Farther t kept other
+kept-at Farther t kept other n d f g a far =
+    record {
+      line = a .new;
+      within = read-line kept t n d f g a;
+      others = λ long characters m w. subst (λ (k : ℕ). Farther k (distance other m)) (read-distance kept t n d f g a) (far long characters m w);
+    }
+
 module _ (x y : List ℕ) (t : ℕ) where
   by-first : (one other : LineReading) → Answers x t one → Answers y t other → choiceOf one other ≡ First → Kept (λ d e. d ≤ e) t x y
   by-first (R.Line n d f g) (R.Line m e h i) a b q =
-      record {
-        line = a .new;
-        within = read-line x t n d f g a;
-        others = λ _ _ l w. go l w (le-or-lt d e);
-      }
-    where
-      go : (l : List ℕ) → Within t y l → (d ≤ e) ⊎ (e < d) → distance x (a .new) ≤ distance y l
-      go l w (inl k) = omega (arith, read-distance x t n d f g a, the-distance y t m e h i b l w)
-      go l w (inr k) = absurd (let z : _≡_ {A = ℕ} 2 1 = ap scanOf (nearer d (R.Line m e h i) m e h i refl k ∙ q) in omega arith)
+      kept-at (λ d e. d ≤ e) t x y n d f g a (λ _ _ l w. subst (λ (k : ℕ). d ≤ k) (the-distance y t m e h i b l w) (not-farther d m e h i q))
   by-first (R.Line n d f g) (R.Refused s) a b q =
-      record {
-        line = a .new;
-        within = read-line x t n d f g a;
-        others = λ long characters l w. absurd (none-near y t s b long characters (read-radius x t n d f g a) l w);
-      }
+      kept-at (λ d e. d ≤ e) t x y n d f g a (λ long characters l w. absurd (none-near y t s b long characters (read-radius x t n d f g a) l w))
   by-first (R.Refused r) (R.Line m e h i) a b q = absurd (let z : _≡_ {A = ℕ} 2 1 = ap scanOf q in omega arith)
   by-first (R.Refused r) (R.Refused s) a b q = absurd (let z : _≡_ {A = ℕ} 0 1 = ap scanOf q in omega arith)
 
   by-second : (one other : LineReading) → Answers x t one → Answers y t other → choiceOf one other ≡ Second → Kept (λ d e. d < e) t y x
   by-second (R.Line n d f g) (R.Line m e h i) a b q =
-      record {
-        line = b .new;
-        within = read-line y t m e h i b;
-        others = λ _ _ l w. go l w (le-or-lt d e);
-      }
-    where
-      go : (l : List ℕ) → Within t x l → (d ≤ e) ⊎ (e < d) → distance y (b .new) < distance x l
-      go l w (inl k) = absurd (let z : _≡_ {A = ℕ} 1 2 = ap scanOf (no-nearer d (R.Line m e h i) m e h i refl k ∙ q) in omega arith)
-      go l w (inr k) = omega (arith, read-distance y t m e h i b, the-distance x t n d f g a l w)
-  by-second (R.Line n d f g) (R.Refused s) a b q = absurd (let z : _≡_ {A = ℕ} 1 2 = ap scanOf q in omega arith)
+      kept-at (λ d e. d < e) t y x m e h i b (λ _ _ l w. subst (λ (k : ℕ). e < k) (the-distance x t n d f g a l w) (farther d m e h i q))
   by-second (R.Refused r) (R.Line m e h i) a b q =
-      record {
-        line = b .new;
-        within = read-line y t m e h i b;
-        others = λ long characters l w. absurd (none-near x t r a long characters (read-radius y t m e h i b) l w);
-      }
+      kept-at (λ d e. d < e) t y x m e h i b (λ long characters l w. absurd (none-near x t r a long characters (read-radius y t m e h i b) l w))
+  by-second (R.Line n d f g) (R.Refused s) a b q = absurd (let z : _≡_ {A = ℕ} 1 2 = ap scanOf q in omega arith)
   by-second (R.Refused r) (R.Refused s) a b q = absurd (let z : _≡_ {A = ℕ} 0 2 = ap scanOf q in omega arith)
 
   by-neither : (r : Refusal) (one other : LineReading) → Answers x t one → Answers y t other → choiceOf one other ≡ Neither r
       → ((s : Refusal) × Answers x t (R.Refused s)) × ((s : Refusal) × Answers y t (R.Refused s))
-  by-neither r (R.Line n d f g) (R.Line m e h i) a b q = go (le-or-lt d e)
-    where
-      go : (d ≤ e) ⊎ (e < d) → ((s : Refusal) × Answers x t (R.Refused s)) × ((s : Refusal) × Answers y t (R.Refused s))
-      go (inl k) = absurd (let z : _≡_ {A = ℕ} 1 0 = ap scanOf (no-nearer d (R.Line m e h i) m e h i refl k ∙ q) in omega arith)
-      go (inr k) = absurd (let z : _≡_ {A = ℕ} 2 0 = ap scanOf (nearer d (R.Line m e h i) m e h i refl k ∙ q) in omega arith)
+  by-neither r (R.Line n d f g) (R.Line m e h i) a b q = absurd (not-neither d m e h i r q)
   by-neither r (R.Line n d f g) (R.Refused s) a b q = absurd (let z : _≡_ {A = ℕ} 1 0 = ap scanOf q in omega arith)
   by-neither r (R.Refused o) (R.Line m e h i) a b q = absurd (let z : _≡_ {A = ℕ} 2 0 = ap scanOf q in omega arith)
   by-neither r (R.Refused o) (R.Refused s) a b q = ((o, a), (s, b))

@@ -57,12 +57,7 @@ fn chosen(one: LineReading, other: LineReading) -> Choice
     ensures { λ r. ⌜ r ≡ choiceOf one other ⌝ }
 {
     match one {
-        LineReading::Line {
-            number: _,
-            distance,
-            first: _,
-            last: _,
-        } => beside(distance, other),
+        LineReading::Line { distance, .. } => beside(distance, other),
         LineReading::Refused(why) => instead(why, other),
     }
 }
@@ -73,10 +68,8 @@ fn beside(distance: u8, other: LineReading) -> Choice
 {
     match other {
         LineReading::Line {
-            number: _,
             distance: farther,
-            first: _,
-            last: _,
+            ..
         } => {
             if farther < distance {
                 return Choice::Second;
@@ -92,12 +85,7 @@ fn instead(why: Refusal, other: LineReading) -> Choice
     ensures { λ r. ⌜ r ≡ insteadOf why other ⌝ }
 {
     match other {
-        LineReading::Line {
-            number: _,
-            distance: _,
-            first: _,
-            last: _,
-        } => Choice::Second,
+        LineReading::Line { .. } => Choice::Second,
         LineReading::Refused(_) => Choice::Neither(why),
     }
 }

@@ -95,7 +95,7 @@ fn changed_addresses() {
 
 #[test]
 fn two_scans() {
-    let scan = |wrong: usize| -> [u8; 63] { core::array::from_fn(|a| z()[a] ^ if a % 9 < 1 && a / 9 < wrong { 7 } else { 0 }) };
+    let scan = |wrong: usize| -> [u8; 63] { core::array::from_fn(|a| z()[a] ^ if a % 9 == 0 && a / 9 < wrong { 7 } else { 0 }) };
     for (wrong, more) in (0..=6).flat_map(|wrong| (0..=6).map(move |more| (wrong, more))) {
         for radius in 0..=5 {
             let (first, second) = (scan(wrong), scan(more));

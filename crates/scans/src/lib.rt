@@ -68,10 +68,10 @@ fn beside(distance: u8, other: LineReading) -> Choice
 {
     match other {
         LineReading::Line {
-            distance: farther,
+            distance: others,
             ..
         } => {
-            if farther < distance {
+            if others < distance {
                 return Choice::Second;
             }
             Choice::First

@@ -1,4 +1,5 @@
-# What the scripts share, each of which sources this file first: help, the words that are taken, the root of the tree, Debian's packages.
+# What the scripts share, each of which sources this file first: help, the words that are taken, the root of the tree, Debian's packages, and what makes and
+# runs programs for x86-64 elsewhere.
 #
 # `--help` or `-h` among the words prints the comment at the script's head, and nothing else is done.
 script=$(realpath "$0")
@@ -32,3 +33,8 @@ need() {
     dpkg -s "$@" >/dev/null 2>&1 && return
     apt-get install -y --no-install-recommends "$@" || { apt-get update && apt-get install -y --no-install-recommends "$@"; }
 }
+
+# x86_64: sees to it that programs for x86-64 can be run; python: the Python that can load the library. On x86-64 nothing has to be done.
+x86_64() { :; }
+python() { python3 "$@"; }
+[ "$(uname -m)" = x86_64 ] || . tools/x86_64.sh

@@ -2,6 +2,7 @@
 
 import doctest
 import itertools
+import os
 import pathlib
 import subprocess
 import tempfile
@@ -214,7 +215,7 @@ class Tests(unittest.TestCase):
                 ("tells no version;", "int other;"),
             ):
                 library = pathlib.Path(folder) / f"{len(says)}.so"
-                subprocess.run(["gcc", "-shared", "-fPIC", "-x", "c", "-", "-o", library], input=source.encode(), check=True)
+                subprocess.run([os.environ.get("CC", "gcc"), "-shared", "-fPIC", "-x", "c", "-", "-o", library], input=source.encode(), check=True)
                 with self.assertRaisesRegex(ImportError, says):
                     film._load(str(library))
 

@@ -25,7 +25,7 @@ extern "C" {
 /* ---- The version of this header. tools/tables writes its three numbers from version.txt. */
 
 #define FILM_VERSION_MAJOR 4
-#define FILM_VERSION_MINOR 0
+#define FILM_VERSION_MINOR 1
 #define FILM_VERSION_PATCH 0
 #define FILM_VERSION (1000000 * FILM_VERSION_MAJOR + 1000 * FILM_VERSION_MINOR + FILM_VERSION_PATCH)
 
@@ -38,11 +38,11 @@ uint32_t film_version(void);
 
 enum {
     FILM_DONE = 0,
-    FILM_INPUT_LENGTH = 1,      /* a line or ring is not 63 long, or text to be encoded is not 50 long */
+    FILM_INPUT_LENGTH = 1,      /* a line or ring is not 63 long, or a text is not 50 long */
     FILM_VALUE_OVER = 2,        /* a character (a register's too) or field operand is over 63, or a data row over 127 */
     FILM_RADIUS_OVER = 3,       /* radius over 5 */
     FILM_NUMBER_OVER = 4,       /* number over 4095 */
-    FILM_OUTPUT_LENGTH = 5,     /* output length differs from the one stated */
+    FILM_OUTPUT_LENGTH = 5,     /* output length differs from the one stated, or is under 294 for panel text */
     FILM_NO_LINE = 6,           /* no line within the radius; for ring reading, an empty list */
     FILM_OTHER_NUMBER = 7,      /* the line found has another number than the wanted one */
     FILM_ROW_COUNT = 8,         /* block rows outside 2..64, or data rows outside 1..63 */
@@ -51,15 +51,18 @@ enum {
     FILM_REGISTER_FULL = 11,    /* a step is asked of a register that holds 52 characters, or anything of one whose count is above 52 */
     FILM_REGISTER_SHORT = 12,   /* register holds fewer than 52 */
     FILM_QUOTIENT_BY_ZERO = 13, /* quotient by zero */
-    FILM_LAST_REFUSAL = 13      /* the highest of these numbers */
+    FILM_TEMPLATE = 14,         /* panel text: the kind is 1, a template */
+    FILM_UNKNOWN_KIND = 15,     /* panel text: the kind is over 1 */
+    FILM_LAST_REFUSAL = 15      /* the highest of these numbers */
 };
 
 /* ---- Lengths, in bytes. */
 
 enum {
-    FILM_TEXT = 50,       /* text to be encoded */
+    FILM_TEXT = 50,       /* the text of a line */
     FILM_CHARACTERS = 63, /* a line, a ring, and the output of encoding and reading them */
     FILM_STARTS = 126,    /* the output of listing a ring */
+    FILM_PANEL = 294,     /* the least output of panel text, and the longest text for a panel */
     FILM_CHECKS = 11      /* a register's characters, and the checks */
 };
 
@@ -164,6 +167,23 @@ film_list film_list_ring(const uint8_t *ring, size_t ring_len, uint8_t radius, u
 
 /* Reads the line at the one start that is listed into the output, 63 bytes. Refusals: 1, 5, 2, 3, 6, 10. */
 film_ring film_read_ring(const uint8_t *ring, size_t ring_len, uint8_t radius, uint8_t *out, size_t out_len);
+
+/* ---- Harmless text for a panel. The first of a line's 50 text characters is its kind: 0 plain, 1 template, others unknown;
+ * only plain text is written. Each of the other 49 characters v stands for the ASCII byte 32 + v, and & < > " ' are written
+ * as &amp; &lt; &gt; &quot; &#39;. The output is at least 294 bytes long: its first `length` bytes get the text, with no
+ * byte 0 after it, and the others stay. No byte written is < > " or ', so the text can stand between the tags of a page,
+ * and in an attribute between quotes of either kind. */
+
+typedef struct film_panel {
+    uint8_t answer;
+    uint16_t length; /* how many bytes were written */
+} film_panel;
+
+/* The text of a line. Refusals: 1, 5, 2, 14, 15. */
+film_panel film_panel_text(const uint8_t *text, size_t text_len, uint8_t *out, size_t out_len);
+
+/* The text of the line at the one start of a ring that is listed. Refusals: 1, 5, 2, 3, 6, 10, 14, 15. */
+film_panel film_panel_ring(const uint8_t *ring, size_t ring_len, uint8_t radius, uint8_t *out, size_t out_len);
 
 /* ---- A block: 2 to 64 rows of eight bits; the lowest seven bits of all but the last row are data, the highest bit is the
  * row check, and the last row holds the column checks. It is proper when every row holds an even number of ones and every

@@ -3,7 +3,7 @@
 // A number that no rule here answers is no mistake.
 #![allow(dead_code)]
 
-/// A line or ring is not 63 long, or text to be encoded is not 50 long.
+/// A line or ring is not 63 long, or a text is not 50 long.
 pub const INPUT_LENGTH: u8 = 1;
 /// A character (a register's too) or field operand is over 63, or a data row over 127.
 pub const VALUE_OVER: u8 = 2;
@@ -11,7 +11,7 @@ pub const VALUE_OVER: u8 = 2;
 pub const RADIUS_OVER: u8 = 3;
 /// Number over 4095.
 pub const NUMBER_OVER: u8 = 4;
-/// Output length differs from the one stated.
+/// Output length differs from the one stated, or is under 294 for panel text.
 pub const OUTPUT_LENGTH: u8 = 5;
 /// No line within the radius; for ring reading, an empty list.
 pub const NO_LINE: u8 = 6;
@@ -29,3 +29,7 @@ pub const REGISTER_FULL: u8 = 11;
 pub const REGISTER_SHORT: u8 = 12;
 /// Quotient by zero.
 pub const QUOTIENT_BY_ZERO: u8 = 13;
+/// Panel text: the kind is 1, a template.
+pub const TEMPLATE: u8 = 14;
+/// Panel text: the kind is over 1.
+pub const UNKNOWN_KIND: u8 = 15;

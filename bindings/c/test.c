@@ -9,7 +9,7 @@ static int failures = 0;
 #define EXPECT(holds) ((holds) ? (void)0 : (void)(failures++, printf("%s:%d: %s\n", __FILE__, __LINE__, #holds)))
 
 /* An output with bytes of 170 before, in and after it. */
-enum { SIDE = 16, ROOM = 256 };
+enum { SIDE = 16, ROOM = 320 };
 static uint8_t memory[SIDE + ROOM + SIDE];
 static uint8_t *const out = memory + SIDE;
 
@@ -32,6 +32,8 @@ static int refused_block(film_block r, int answer) { return r.answer == answer &
 static int refused_ring(film_ring r, int answer) {
     return r.answer == answer && r.start == 0 && r.number == 0 && r.distance == 0 && r.first == 0 && r.last == 0 && kept_after(0);
 }
+
+static int refused_panel(film_panel r, int answer) { return r.answer == answer && r.length == 0 && kept_after(0); }
 
 /* Lengths that are neither 63 nor 126. */
 static const size_t wrong[] = {0, 1, 50, 62, 64, 125, 127, ROOM};
@@ -205,6 +207,89 @@ static void rings(void) {
     }
 }
 
+/* What is due for a text: each character's byte, or its name. */
+static size_t escaped(const uint8_t *text, char *due) {
+    static const char bytes[] = "&<>\"'", *const names[] = {"&amp;", "&lt;", "&gt;", "&quot;", "&#39;"};
+    size_t length = 0;
+    for (int a = 1; a < FILM_TEXT; a++) {
+        const char *named = strchr(bytes, 32 + text[a]);
+        length += named ? strlen(strcpy(due + length, names[named - bytes])) : 1;
+        if (!named)
+            due[length - 1] = (char)(32 + text[a]);
+    }
+    return length;
+}
+
+static int shown(film_panel r, const uint8_t *text) {
+    char due[FILM_PANEL + 1];
+    size_t length = escaped(text, due);
+    return r.answer == FILM_DONE && r.length == length && memcmp(out, due, length) == 0 && kept_after(length);
+}
+
+/* Every character at every place, the longest text, every kind, and each refusal before those that come after it. */
+static void panel_texts(void) {
+    uint8_t text[FILM_TEXT] = {0};
+    for (int a = 1; a < FILM_TEXT; a++) {
+        for (uint8_t v = 0; v < 64; v++) {
+            text[a] = v;
+            lend();
+            EXPECT(shown(film_panel_text(text, 50, out, FILM_PANEL), text));
+        }
+        text[a] = (uint8_t)(a * 23 % 64);
+    }
+    memset(text + 1, '"' - 32, 49);
+    lend();
+    EXPECT(shown(film_panel_text(text, 50, out, FILM_PANEL), text) && film_panel_text(text, 50, out, ROOM).length == FILM_PANEL);
+    lend();
+    for (int kind = 1; kind < 256; kind++) {
+        text[0] = (uint8_t)kind;
+        EXPECT(refused_panel(film_panel_text(text, 50, out, FILM_PANEL), kind > 63 ? FILM_VALUE_OVER : kind == 1 ? FILM_TEMPLATE : FILM_UNKNOWN_KIND));
+    }
+    for (int kind = 0; kind < 3; kind++)
+        for (int a = 1; a < FILM_TEXT; a++) {
+            text[0] = (uint8_t)kind;
+            text[a] = (uint8_t)(64 + a * 3);
+            EXPECT(refused_panel(film_panel_text(text, 50, out, FILM_PANEL), FILM_VALUE_OVER));
+            EXPECT(refused_panel(film_panel_text(text, 50, out, FILM_PANEL - 1), FILM_OUTPUT_LENGTH));
+            EXPECT(refused_panel(film_panel_text(text, 49, out, FILM_PANEL - 1), FILM_INPUT_LENGTH));
+            text[a] = 0;
+        }
+    EXPECT(refused_panel(film_panel_text(zeros, 51, out, FILM_PANEL), FILM_INPUT_LENGTH));
+    EXPECT(refused_panel(film_panel_text(zeros, 50, NULL, 0), FILM_OUTPUT_LENGTH));
+    EXPECT(refused_panel(film_panel_text(NULL, 0, NULL, 0), FILM_INPUT_LENGTH));
+}
+
+/* Lines of three kinds recorded at every start with one wrong character, and each refusal of a ring. */
+static void panel_rings(void) {
+    uint8_t text[FILM_TEXT], line[FILM_CHARACTERS], ring[FILM_CHARACTERS];
+    for (int a = 1; a < FILM_TEXT; a++)
+        text[a] = (uint8_t)(a * 37 % 64);
+    for (int kind = 0; kind < 3; kind++) {
+        text[0] = (uint8_t)kind;
+        EXPECT(film_encode_line(text, 50, 4095, line, 63) == FILM_DONE);
+        for (int start = 0; start < 126; start++) {
+            for (int a = 0; a < 63; a++)
+                ring[start < 63 ? (start + a) % 63 : (start - a) % 63] = line[a];
+            ring[start % 63] ^= 9;
+            lend();
+            film_panel r = film_panel_ring(ring, 63, 1, out, FILM_PANEL);
+            EXPECT(kind == 0 ? shown(r, text) : refused_panel(r, kind == 1 ? FILM_TEMPLATE : FILM_UNKNOWN_KIND));
+        }
+    }
+    lend();
+    EXPECT(refused_panel(film_panel_ring(z, 63, 4, out, FILM_PANEL), FILM_MANY_STARTS));
+    EXPECT(refused_panel(film_panel_ring(zeros, 63, 0, out, FILM_PANEL), FILM_NO_LINE));
+    EXPECT(refused_panel(film_panel_ring(z, 63, 6, out, FILM_PANEL), FILM_RADIUS_OVER));
+    ring[62] = 64;
+    EXPECT(refused_panel(film_panel_ring(ring, 63, 6, out, FILM_PANEL), FILM_VALUE_OVER));
+    EXPECT(refused_panel(film_panel_ring(ring, 63, 6, out, FILM_PANEL - 1), FILM_OUTPUT_LENGTH));
+    EXPECT(refused_panel(film_panel_ring(ring, 62, 6, NULL, 0), FILM_INPUT_LENGTH));
+    for (int i = 0; i < wrongs; i++) {
+        EXPECT(refused_panel(film_panel_ring(zeros, wrong[i], 6, out, FILM_PANEL), FILM_INPUT_LENGTH));
+        EXPECT(wrong[i] >= FILM_PANEL || refused_panel(film_panel_ring(z, 63, 6, out, wrong[i]), FILM_OUTPUT_LENGTH));
+    }
+}
+
 static void blocks(void) {
     static const uint8_t proper[] = {3, 252}, one_wrong[] = {3, 253}, even_columns[] = {3, 3}, far[] = {3, 0}, over[] = {127, 128};
     lend();
@@ -281,7 +366,7 @@ static void registers(void) {
 }
 
 int main(void) {
-    EXPECT(sizeof(film_line) == 6 && sizeof(film_choice) == 2 && sizeof(film_ring) == 8 && sizeof(film_register) == 12 && sizeof(film_stepped) == 13 && sizeof(film_checked) == 12);
+    EXPECT(sizeof(film_line) == 6 && sizeof(film_choice) == 2 && sizeof(film_ring) == 8 && sizeof(film_panel) == 4 && sizeof(film_register) == 12 && sizeof(film_stepped) == 13 && sizeof(film_checked) == 12);
     EXPECT(film_version() == FILM_VERSION && FILM_VERSION / 1000000 == FILM_VERSION_MAJOR);
     EXPECT(film_encode_line(zeros, 50, 0, z, 63) == FILM_DONE && z[52] == 32 && z[55] == 8 && z[62] == 1);
     field();
@@ -290,6 +375,8 @@ int main(void) {
     changed_addresses();
     two_scans();
     rings();
+    panel_texts();
+    panel_rings();
     blocks();
     row_counts();
     registers();

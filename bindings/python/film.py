@@ -20,7 +20,7 @@ import pathlib
 from typing import NamedTuple, Optional
 
 # tools/tables writes this from version.txt, and the refusals below from refusals.txt.
-__version__ = "4.0.0"
+__version__ = "4.1.0"
 
 _u8 = ctypes.c_uint8
 _u16 = ctypes.c_uint16
@@ -29,13 +29,16 @@ _u32 = ctypes.c_uint32
 # In the place of an address: nothing was changed.
 NOWHERE = 63
 
+# The least output of panel text, and the longest text for a panel.
+PANEL = 294
+
 # The numbered answers, as the paper gives them; 0 is a success.
 REFUSALS = {
-    1: "a line or ring is not 63 long, or text to be encoded is not 50 long",
+    1: "a line or ring is not 63 long, or a text is not 50 long",
     2: "a character (a register's too) or field operand is over 63, or a data row over 127",
     3: "radius over 5",
     4: "number over 4095",
-    5: "output length differs from the one stated",
+    5: "output length differs from the one stated, or is under 294 for panel text",
     6: "no line within the radius; for ring reading, an empty list",
     7: "the line found has another number than the wanted one",
     8: "block rows outside 2..64, or data rows outside 1..63",
@@ -44,6 +47,8 @@ REFUSALS = {
     11: "a step is asked of a register that holds 52 characters, or anything of one whose count is above 52",
     12: "register holds fewer than 52",
     13: "quotient by zero",
+    14: "panel text: the kind is 1, a template",
+    15: "panel text: the kind is over 1",
 }
 
 
@@ -104,6 +109,10 @@ class _Ring(ctypes.Structure):
     _fields_ = [("answer", _u8), ("start", _u8), ("distance", _u8), ("number", _u16), ("first", _u8), ("last", _u8)]
 
 
+class _Panel(ctypes.Structure):
+    _fields_ = [("answer", _u8), ("length", _u16)]
+
+
 class _Block(ctypes.Structure):
     _fields_ = [("answer", _u8), ("distance", _u8)]
 
@@ -149,6 +158,8 @@ def _load(path):
         ("better_scan", given + given + [_u8], _Choice),
         ("list_ring", given + [_u8] + output, _List),
         ("read_ring", given + [_u8] + output, _Ring),
+        ("panel_text", given + output, _Panel),
+        ("panel_ring", given + [_u8] + output, _Panel),
         ("encode_block", given + output, _u8),
         ("read_block", given + output, _Block),
     ]:
@@ -258,6 +269,27 @@ def read_ring(ring, radius, out: Optional[bytearray] = None) -> RingRead:
     """The line at the one start that is listed."""
     result, line = _call(_library.film_read_ring, ring, _byte(radius), room=63, out=out)
     return RingRead(line, result.start, result.number, result.distance, result.first, result.last)
+
+
+def panel_text(text, out: Optional[bytearray] = None) -> str:
+    """Harmless text for a panel, from the 50 text characters of a line. The first is the kind, and only plain text (kind 0) is written: of the others v stands
+    for the ASCII byte 32 + v, and & < > " ' are written by name. An output that is handed in has PANEL bytes or more; those after the text stay.
+
+    >>> note = [ord(c) - 32 for c in "AT&T <B>".ljust(49)]
+    >>> panel_text([0] + note).rstrip()
+    'AT&amp;T &lt;B&gt;'
+    >>> panel_text([1] + note)
+    Traceback (most recent call last):
+    film.Refused: refused (14): panel text: the kind is 1, a template
+    """
+    result, shown = _call(_library.film_panel_text, text, room=PANEL, out=out)
+    return shown[: result.length].decode("ascii")
+
+
+def panel_ring(ring, radius, out: Optional[bytearray] = None) -> str:
+    """Harmless text for a panel, from a ring: that of the line at the one start that is listed, as panel_text gives it."""
+    result, shown = _call(_library.film_panel_ring, ring, _byte(radius), room=PANEL, out=out)
+    return shown[: result.length].decode("ascii")
 
 
 def encode_block(data, out: Optional[bytearray] = None) -> bytes:

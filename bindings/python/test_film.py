@@ -148,6 +148,46 @@ class Tests(unittest.TestCase):
             self.refused(5, call, Z, 9, room=189 - room)
             self.refused(2, call, Z[:62] + b"\xff", 9, room=room)
 
+    def test_panel_text(self):
+        names = {"&": "&amp;", "<": "&lt;", ">": "&gt;", '"': "&quot;", "'": "&#39;"}
+        for place, v in itertools.product(range(1, 50), range(64)):
+            text = [0] + [place * i % 64 for i in range(1, 50)]
+            text[place] = v
+            due = "".join(names.get(chr(32 + c), chr(32 + c)) for c in text[1:])
+            self.assertEqual(film.panel_text(text), due)
+        out = bytearray([170] * 300)
+        self.assertEqual(film.panel_text(bytes([0] + [2] * 49), out), "&quot;" * 49)
+        self.assertEqual(out, b"&quot;" * 49 + bytes([170] * 6))
+        for kind in range(1, 256):
+            number = 2 if kind > 63 else 14 if kind == 1 else 15
+            self.refused(number, film.panel_text, [kind] * 50, room=294)
+            self.refused(5, film.panel_text, [kind] * 50, room=293)
+            self.refused(1, film.panel_text, [kind] * 49, room=0)
+        for kind, place in itertools.product(range(3), range(1, 50)):
+            text = bytearray([kind] * 50)
+            text[place] = 64
+            self.refused(2, film.panel_text, text, room=294)
+
+    def test_panel_ring(self):
+        for kind, start in itertools.product(range(3), range(0, 63, 7)):
+            text = bytes([kind] + [i * 37 % 64 for i in range(1, 50)])
+            line = film.encode_line(text, 4095)
+            ring = bytearray(line[63 - start :] + line[: 63 - start])
+            ring[start] ^= 5
+            for recorded in (ring, ring[::-1]):
+                if kind == 0:
+                    self.assertEqual(film.panel_ring(recorded, 1), film.panel_text(text))
+                else:
+                    self.refused(13 + kind, film.panel_ring, recorded, 1, room=294)
+                self.refused(6, film.panel_ring, recorded, 0, room=294)
+            ring[start] = 64
+            for radius in (1, 6, 300):
+                self.refused(2, film.panel_ring, ring, radius, room=294)
+                self.refused(5, film.panel_ring, ring, radius, room=293)
+                self.refused(1, film.panel_ring, ring[1:], radius, room=0)
+        self.refused(10, film.panel_ring, Z, 4, room=294)
+        self.refused(3, film.panel_ring, Z, 6, room=294)
+
     def test_blocks(self):
         self.assertEqual(film.encode_block([3]), bytes([3, 252]))
         self.assertEqual(film.read_block([3, 253]), (bytes([3, 252]), 1))

@@ -26,7 +26,7 @@ pub use refusal::Refusal;
 
 /// The version that this crate was made for: a million times the major number, a thousand times the minor, and the patch. It is the crate's own;
 /// tools/tables writes it from version.txt.
-pub const VERSION: u32 = 4000000;
+pub const VERSION: u32 = 4001000;
 
 /// The version of the library that is linked, written as [`VERSION`] is.
 pub fn version() -> u32 {
@@ -131,6 +131,39 @@ pub struct RingRead {
 pub fn read_ring(ring: &[u8], radius: u8, out: &mut [u8]) -> Result<RingRead, Refusal> {
     let r = library::read_ring(ring, radius, out);
     answered(r.answer, RingRead { start: r.start, number: r.number, distance: r.distance, first: r.first, last: r.last })
+}
+
+/// The least output of panel text, and the longest text for a panel.
+pub const PANEL: usize = 294;
+
+/// What was written for a panel, as text.
+fn shown(r: library::Panel, out: &[u8]) -> Result<&str, Refusal> {
+    answered(r.answer, ())?;
+    Ok(core::str::from_utf8(&out[..r.length as usize]).expect("it is proved that each byte is ASCII"))
+}
+
+/// Harmless text for a panel, from the 50 text characters of a line. The first is the kind, and only plain text (kind 0) is written: of the others `v`
+/// stands for the ASCII byte 32 + `v`, and `&`, `<`, `>`, `"` and `'` are written by name. `out` has [`PANEL`] bytes or more; those after the text stay.
+///
+/// ```
+/// let mut text = [0; 50];
+/// for (v, c) in text[1..].iter_mut().zip("\"AT&T\" <B>".bytes()) {
+///     *v = c - 32;
+/// }
+/// let mut out = [0; film::PANEL];
+/// assert_eq!(film::panel_text(&text, &mut out)?.trim_end(), "&quot;AT&amp;T&quot; &lt;B&gt;");
+/// text[0] = 1;
+/// assert_eq!(film::panel_text(&text, &mut out), Err(film::Refusal::Template));
+/// # Ok::<(), film::Refusal>(())
+/// ```
+pub fn panel_text<'a>(text: &[u8], out: &'a mut [u8]) -> Result<&'a str, Refusal> {
+    shown(library::panel_text(text, out), out)
+}
+
+/// Harmless text for a panel, from a ring: that of the line at the one start that is listed, as [`panel_text`] gives it. The refusals of [`read_ring`]
+/// come first.
+pub fn panel_ring<'a>(ring: &[u8], radius: u8, out: &'a mut [u8]) -> Result<&'a str, Refusal> {
+    shown(library::panel_ring(ring, radius, out), out)
 }
 
 /// Encodes 1 to 63 data rows: `out`, one longer, gets the one proper block with them: every row holds an even number of ones, every column an odd number.

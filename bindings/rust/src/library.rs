@@ -40,6 +40,12 @@ pub struct Ring {
 }
 
 #[repr(C)]
+pub struct Panel {
+    pub answer: u8,
+    pub length: u16,
+}
+
+#[repr(C)]
 pub struct Block {
     pub answer: u8,
     pub distance: u8,
@@ -69,6 +75,8 @@ extern "C" {
     fn film_better_scan(first: *const u8, first_len: usize, second: *const u8, second_len: usize, radius: u8) -> Choice;
     fn film_list_ring(ring: *const u8, ring_len: usize, radius: u8, out: *mut u8, out_len: usize) -> List;
     fn film_read_ring(ring: *const u8, ring_len: usize, radius: u8, out: *mut u8, out_len: usize) -> Ring;
+    fn film_panel_text(text: *const u8, text_len: usize, out: *mut u8, out_len: usize) -> Panel;
+    fn film_panel_ring(ring: *const u8, ring_len: usize, radius: u8, out: *mut u8, out_len: usize) -> Panel;
     fn film_encode_block(data: *const u8, data_len: usize, out: *mut u8, out_len: usize) -> u8;
     fn film_read_block(rows: *const u8, rows_len: usize, out: *mut u8, out_len: usize) -> Block;
     fn film_step(before: Register, c: u8) -> Stepped;
@@ -116,6 +124,14 @@ pub fn list_ring(ring: &[u8], radius: u8, out: &mut [u8]) -> List {
 
 pub fn read_ring(ring: &[u8], radius: u8, out: &mut [u8]) -> Ring {
     unsafe { film_read_ring(ring.as_ptr(), ring.len(), radius, out.as_mut_ptr(), out.len()) }
+}
+
+pub fn panel_text(text: &[u8], out: &mut [u8]) -> Panel {
+    unsafe { film_panel_text(text.as_ptr(), text.len(), out.as_mut_ptr(), out.len()) }
+}
+
+pub fn panel_ring(ring: &[u8], radius: u8, out: &mut [u8]) -> Panel {
+    unsafe { film_panel_ring(ring.as_ptr(), ring.len(), radius, out.as_mut_ptr(), out.len()) }
 }
 
 pub fn encode_block(data: &[u8], out: &mut [u8]) -> u8 {

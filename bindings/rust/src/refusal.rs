@@ -6,7 +6,7 @@ use core::fmt;
 #[derive(Clone, Copy, Debug, PartialEq, Eq, Hash)]
 #[non_exhaustive]
 pub enum Refusal {
-    /// A line or ring is not 63 long, or text to be encoded is not 50 long.
+    /// A line or ring is not 63 long, or a text is not 50 long.
     InputLength,
     /// A character (a register's too) or field operand is over 63, or a data row over 127.
     ValueOver,
@@ -14,7 +14,7 @@ pub enum Refusal {
     RadiusOver,
     /// Number over 4095.
     NumberOver,
-    /// Output length differs from the one stated.
+    /// Output length differs from the one stated, or is under 294 for panel text.
     OutputLength,
     /// No line within the radius; for ring reading, an empty list.
     NoLine,
@@ -32,6 +32,10 @@ pub enum Refusal {
     RegisterShort,
     /// Quotient by zero.
     QuotientByZero,
+    /// Panel text: the kind is 1, a template.
+    Template,
+    /// Panel text: the kind is over 1.
+    UnknownKind,
     /// A number that this crate does not know: the library that is linked is a later one.
     Unknown(u8),
 }
@@ -52,6 +56,8 @@ impl Refusal {
         Refusal::RegisterFull,
         Refusal::RegisterShort,
         Refusal::QuotientByZero,
+        Refusal::Template,
+        Refusal::UnknownKind,
     ];
 
     /// The paper's number.
@@ -70,6 +76,8 @@ impl Refusal {
             Refusal::RegisterFull => 11,
             Refusal::RegisterShort => 12,
             Refusal::QuotientByZero => 13,
+            Refusal::Template => 14,
+            Refusal::UnknownKind => 15,
             Refusal::Unknown(number) => number,
         }
     }
@@ -87,11 +95,11 @@ impl Refusal {
 impl fmt::Display for Refusal {
     fn fmt(&self, f: &mut fmt::Formatter<'_>) -> fmt::Result {
         let why = match self {
-            Refusal::InputLength => "a line or ring is not 63 long, or text to be encoded is not 50 long",
+            Refusal::InputLength => "a line or ring is not 63 long, or a text is not 50 long",
             Refusal::ValueOver => "a character (a register's too) or field operand is over 63, or a data row over 127",
             Refusal::RadiusOver => "radius over 5",
             Refusal::NumberOver => "number over 4095",
-            Refusal::OutputLength => "output length differs from the one stated",
+            Refusal::OutputLength => "output length differs from the one stated, or is under 294 for panel text",
             Refusal::NoLine => "no line within the radius; for ring reading, an empty list",
             Refusal::OtherNumber => "the line found has another number than the wanted one",
             Refusal::RowCount => "block rows outside 2..64, or data rows outside 1..63",
@@ -100,6 +108,8 @@ impl fmt::Display for Refusal {
             Refusal::RegisterFull => "a step is asked of a register that holds 52 characters, or anything of one whose count is above 52",
             Refusal::RegisterShort => "register holds fewer than 52",
             Refusal::QuotientByZero => "quotient by zero",
+            Refusal::Template => "panel text: the kind is 1, a template",
+            Refusal::UnknownKind => "panel text: the kind is over 1",
             Refusal::Unknown(_) => "a reason that this crate does not know",
         };
         write!(f, "refused ({}): {why}", self.number())

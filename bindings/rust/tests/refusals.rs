@@ -186,6 +186,78 @@ fn a_ring() {
     }
 }
 
+/// What is due for a text: its bytes, with the five names put in from the last byte to the first, so that none is met twice.
+fn escaped(text: &[u8]) -> String {
+    let mut due: String = text[1..].iter().map(|v| char::from(32 + v)).collect();
+    for at in (0..due.len()).rev() {
+        let name = match &due[at..=at] {
+            "&" => "&amp;",
+            "<" => "&lt;",
+            ">" => "&gt;",
+            "\"" => "&quot;",
+            "'" => "&#39;",
+            _ => continue,
+        };
+        due.replace_range(at..=at, name);
+    }
+    due
+}
+
+#[test]
+fn panel_texts() {
+    for (a, v) in (1..50).flat_map(|a| (0..64).map(move |v| (a, v))) {
+        let mut text: [u8; 50] = core::array::from_fn(|i| (i * a % 64) as u8);
+        text[a] = v;
+        let mut output = [170; 300];
+        let shown = film::panel_text(&text, &mut output).unwrap().to_owned();
+        assert_eq!(shown, escaped(&text));
+        assert!(output[shown.len()..].iter().all(|&byte| byte == 170));
+    }
+    let mut quotes = [2; 50];
+    quotes[0] = 0;
+    assert_eq!(film::panel_text(&quotes, &mut [0; film::PANEL]), Ok("&quot;".repeat(49).as_str()));
+    for kind in 1..=255 {
+        let due = match kind {
+            1 => 14,
+            2..=63 => 15,
+            _ => 2,
+        };
+        let text: [u8; 50] = core::array::from_fn(|i| if i == 0 { kind } else { 7 });
+        refused(due, film::PANEL, |out| film::panel_text(&text, out).map(str::len));
+        refused(5, film::PANEL - 1, |out| film::panel_text(&text, out).map(str::len));
+        refused(1, 0, |out| film::panel_text(&text[1..], out).map(str::len));
+    }
+    for (kind, a) in (0..3).flat_map(|kind| (1..50).map(move |a| (kind, a))) {
+        let mut text = [kind; 50];
+        text[a] = 64;
+        refused(2, film::PANEL, |out| film::panel_text(&text, out).map(str::len));
+    }
+}
+
+#[test]
+fn panel_rings() {
+    let mut text: [u8; 50] = core::array::from_fn(|i| (i * 37 % 64) as u8);
+    for (kind, start) in (0..3).flat_map(|kind| (0..63).map(move |start| (kind, start))) {
+        text[0] = kind;
+        let mut line = [0; 63];
+        film::encode_line(&text, 9, &mut line).unwrap();
+        let mut ring = turned(line, start);
+        ring[5] ^= 3;
+        match kind {
+            0 => assert_eq!(film::panel_ring(&ring, 1, &mut [0; film::PANEL]), Ok(escaped(&text).as_str())),
+            1 => refused(14, film::PANEL, |out| film::panel_ring(&ring, 1, out).map(str::len)),
+            _ => refused(15, film::PANEL, |out| film::panel_ring(&ring, 1, out).map(str::len)),
+        }
+        refused(6, film::PANEL, |out| film::panel_ring(&ring, 0, out).map(str::len));
+        ring[7] = 64;
+        refused(2, film::PANEL, |out| film::panel_ring(&ring, 6, out).map(str::len));
+        refused(5, film::PANEL - 1, |out| film::panel_ring(&ring, 6, out).map(str::len));
+        refused(1, 0, |out| film::panel_ring(&ring[1..], 6, out).map(str::len));
+    }
+    refused(10, film::PANEL, |out| film::panel_ring(&z(), 4, out).map(str::len));
+    refused(3, film::PANEL, |out| film::panel_ring(&z(), 6, out).map(str::len));
+}
+
 #[test]
 fn a_block() {
     let mut block = [0; 2];
@@ -257,6 +329,7 @@ fn numbers_of_refusals() {
         assert!(refusal.to_string().starts_with(&format!("refused ({}): ", refusal.number())));
     }
     assert_eq!((Refusal::InputLength.number(), Refusal::NoLine.number(), Refusal::QuotientByZero.number()), (1, 6, 13));
+    assert_eq!((Refusal::Template.number(), Refusal::UnknownKind.number()), (14, 15));
     assert_eq!(Refusal::NoLine.to_string(), "refused (6): no line within the radius; for ring reading, an empty list");
 }
 

@@ -19,6 +19,9 @@ use Rattle.ring.specs.Ring.{placed}
 use Rattle.ring.specs.Promises as Ring
 use Rattle.ring.proofs.Those.{one-those}
 use Rattle.ring.proofs.Placing.{kept}
+use Rattle.panel.specs.Promises as Panel
+use Rattle.panel.proofs.Theorems.{same-text}
+use Rattle.panel.proofs.Rings.{same-ring}
 use Rattle.block.specs.Promises as Block
 use Rattle.block.proofs.Results.{one-read-as, one-encoded-as}
 use Rattle.film.specs.declared.FilmElement.{FilmElement}
@@ -26,11 +29,12 @@ use Rattle.film.specs.declared.FilmLine.{FilmLine}
 use Rattle.film.specs.declared.FilmChoice.{FilmChoice}
 use Rattle.film.specs.declared.FilmList.{FilmList}
 use Rattle.film.specs.declared.FilmRing.{FilmRing}
+use Rattle.film.specs.declared.FilmPanel.{FilmPanel}
 use Rattle.film.specs.declared.FilmBlock.{FilmBlock}
 use Rattle.film.specs.declared.FilmRegister.{FilmRegister}
 use Rattle.film.specs.declared.FilmStepped.{FilmStepped}
 use Rattle.film.specs.declared.FilmChecked.{FilmChecked}
-use Rattle.film.specs.Numbers.{elementNumbers, lineNumbers, choiceNumbers, listNumbers, ringNumbers, blockNumbers, registerOf, checkNumbers}
+use Rattle.film.specs.Numbers.{elementNumbers, lineNumbers, choiceNumbers, listNumbers, ringNumbers, panelNumbers, blockNumbers, registerOf, checkNumbers}
 
 -- ---- the field
 
@@ -125,6 +129,18 @@ one-ring-read ring t old r s x y p q =
     (a .shows ∙ ap₂ (λ (k : ℕ) (l : List ℕ). k ∷ Line.told (placed k ring) l) same line ∙ sym (b .shows), line))
     old (ringNumbers r) (ringNumbers s) x y p q in
     (one-ring r s (e .0), e .1)
+
+-- ---- panel text
+
+one-panel : (r s : FilmPanel) → panelNumbers r ≡ panelNumbers s → r ≡ s
+one-panel r s e = ap (λ (l : List ℕ). record { answer = getD l 0 0; length = getD l 1 0 }) e
+
+pub one-panel-text : (v old : List ℕ) (r s : FilmPanel) (x y : List ℕ) → Panel.Panels v old (panelNumbers r) x → Panel.Panels v old (panelNumbers s) y → (r ≡ s) × (x ≡ y)
+one-panel-text v old r s x y p q = let e = same-text v old (panelNumbers r) (panelNumbers s) x y p q in (one-panel r s (e .0), e .1)
+
+pub one-panel-ring : (ring : List ℕ) (t : ℕ) (old : List ℕ) (r s : FilmPanel) (x y : List ℕ)
+    → Panel.PanelsRing ring t old (panelNumbers r) x → Panel.PanelsRing ring t old (panelNumbers s) y → (r ≡ s) × (x ≡ y)
+one-panel-ring ring t old r s x y p q = let e = same-ring ring t old (panelNumbers r) (panelNumbers s) x y p q in (one-panel r s (e .0), e .1)
 
 -- ---- blocks
 

@@ -7,6 +7,7 @@ use Rattle.film.specs.declared.FilmLine.{FilmLine}
 use Rattle.film.specs.declared.FilmChoice.{FilmChoice}
 use Rattle.film.specs.declared.FilmList.{FilmList}
 use Rattle.film.specs.declared.FilmRing.{FilmRing}
+use Rattle.film.specs.declared.FilmPanel.{FilmPanel}
 use Rattle.film.specs.declared.FilmBlock.{FilmBlock}
 use Rattle.film.specs.declared.FilmRegister.{FilmRegister}
 use Rattle.film.specs.declared.FilmChecked.{FilmChecked}
@@ -27,6 +28,9 @@ listNumbers r = r .answer ∷ r .count ∷ []
 -- and in that of reading a ring the start stands before both
 abbrev pub ringNumbers : FilmRing → List ℕ
 ringNumbers r = r .answer ∷ r .start ∷ r .number ∷ r .distance ∷ r .first ∷ r .last ∷ []
+
+abbrev pub panelNumbers : FilmPanel → List ℕ
+panelNumbers r = r .answer ∷ r .length ∷ []
 
 abbrev pub blockNumbers : FilmBlock → List ℕ
 blockNumbers r = r .answer ∷ r .distance ∷ []

@@ -8,8 +8,9 @@ ghost use Rattle.line.specs.declared.Wanted.the-variants.{Any, Number};
 ghost use Rattle.ring.specs.Promises as Ring;
 ghost use Rattle.block.specs.Promises as Block;
 ghost use Rattle.scans.specs.Promises as Scans;
+ghost use Rattle.panel.specs.Promises as Panel;
 ghost use Rattle.film.specs.Version.{version};
-ghost use Rattle.film.specs.Numbers.{elementNumbers, lineNumbers, choiceNumbers, listNumbers, ringNumbers, blockNumbers, registerOf, checkNumbers};
+ghost use Rattle.film.specs.Numbers.{elementNumbers, lineNumbers, choiceNumbers, listNumbers, ringNumbers, panelNumbers, blockNumbers, registerOf, checkNumbers};
 use block::BlockEncoding;
 use block::BlockReading;
 use encoder::CheckAnswer;
@@ -19,12 +20,13 @@ use encoder::StepAnswer;
 use field::Element;
 use line::LineReading;
 use line::Wanted;
+use panel::PanelText;
 use ring::RingListing;
 use ring::RingReading;
 use scans::Choice;
 
 // The library's version: a million times the major number, a thousand times the minor, and the patch. tools/tables writes it from version.txt.
-const VERSION: u32 = 4000000;
+const VERSION: u32 = 4001000;
 
 // The version of the library that is linked.
 #[no_mangle]
@@ -74,6 +76,13 @@ pub struct FilmRing {
     pub number: u16,
     pub first: u8,
     pub last: u8,
+}
+
+// The answer of a panel's text, and how many bytes were written.
+#[repr(C)]
+pub struct FilmPanel {
+    pub answer: u8,
+    pub length: u16,
 }
 
 // The answer of reading a block, and the distance.
@@ -268,6 +277,38 @@ pub extern "C" fn film_read_ring(ring: &[u8], radius: u8, out: &mut [u8]) -> Fil
             last: 0,
         },
     }
+}
+
+// The answer of a panel's text in the library's form.
+fn panel_shown(given: PanelText) -> FilmPanel
+    ensures { λ r. ⌜ panelNumbers r ≡ Panel.panelNumbers given ⌝ }
+{
+    match given {
+        PanelText::Written { length } => FilmPanel {
+            answer: 0,
+            length: length,
+        },
+        PanelText::Refused(why) => FilmPanel {
+            answer: refusal::number(why),
+            length: 0,
+        },
+    }
+}
+
+// Writes a text for a panel.
+#[no_mangle]
+pub extern "C" fn film_panel_text(text: &[u8], out: &mut [u8]) -> FilmPanel
+    ensures { λ r. ⌜ Panel.Panels (now (text .entry)) (now (out .entry)) (panelNumbers r) (now (out .exit)) ⌝ }
+{
+    panel_shown(panel::panel_text(text, out))
+}
+
+// Writes the text of a ring for a panel.
+#[no_mangle]
+pub extern "C" fn film_panel_ring(ring: &[u8], radius: u8, out: &mut [u8]) -> FilmPanel
+    ensures { λ r. ⌜ Panel.PanelsRing (now (ring .entry)) radius (now (out .entry)) (panelNumbers r) (now (out .exit)) ⌝ }
+{
+    panel_shown(panel::panel_ring(ring, radius, out))
 }
 
 // Encodes a block.

@@ -1,10 +1,10 @@
 -- The number of each refusal, as the table of numbered answers gives it; 0 is a success. tools/tables writes the cases from refusals.txt.
 use Prim.Native.Nat.{ℕ}
 use Rattle.refusal.specs.declared.Refusal.{Refusal}
-use Rattle.refusal.specs.declared.Refusal.the-variants.{InputLength, ValueOver, RadiusOver, NumberOver, OutputLength, NoLine, OtherNumber, RowCount, NoBlock, ManyStarts, RegisterFull, RegisterShort, QuotientByZero}
+use Rattle.refusal.specs.declared.Refusal.the-variants.{InputLength, ValueOver, RadiusOver, NumberOver, OutputLength, NoLine, OtherNumber, RowCount, NoBlock, ManyStarts, RegisterFull, RegisterShort, QuotientByZero, Template, UnknownKind}
 
 abbrev pub numberOf : Refusal → ℕ
--- a line or ring is not 63 long, or text to be encoded is not 50 long
+-- a line or ring is not 63 long, or a text is not 50 long
 numberOf InputLength = 1
 -- a character (a register's too) or field operand is over 63, or a data row over 127
 numberOf ValueOver = 2
@@ -12,7 +12,7 @@ numberOf ValueOver = 2
 numberOf RadiusOver = 3
 -- number over 4095
 numberOf NumberOver = 4
--- output length differs from the one stated
+-- output length differs from the one stated, or is under 294 for panel text
 numberOf OutputLength = 5
 -- no line within the radius; for ring reading, an empty list
 numberOf NoLine = 6
@@ -30,3 +30,7 @@ numberOf RegisterFull = 11
 numberOf RegisterShort = 12
 -- quotient by zero
 numberOf QuotientByZero = 13
+-- panel text: the kind is 1, a template
+numberOf Template = 14
+-- panel text: the kind is over 1
+numberOf UnknownKind = 15

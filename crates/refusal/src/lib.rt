@@ -17,6 +17,8 @@ pub enum Refusal {
     RegisterFull,
     RegisterShort,
     QuotientByZero,
+    Template,
+    UnknownKind,
 }
 
 // The number of a refusal.
@@ -37,5 +39,7 @@ pub fn number(r: Refusal) -> u8
         Refusal::RegisterFull => 11,
         Refusal::RegisterShort => 12,
         Refusal::QuotientByZero => 13,
+        Refusal::Template => 14,
+        Refusal::UnknownKind => 15,
     }
 }

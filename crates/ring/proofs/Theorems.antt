@@ -119,7 +119,7 @@ module _ (ring : List ℕ) (t : ℕ) where
       let e : p .starts ≡ q .starts = one-those (p .these) (q .these) in
       (p .count ∙ ap (λ (l : List ℕ). length l ∷ []) e ∙ sym (q .count), p .output ∙ ap (λ (l : List ℕ). l ++ drop (length l) old) e ∙ sym (q .output))
 
-  one-read-at : length ring ≡ 63 → t ≤ 5 → (f g x y : List ℕ) → ReadsAt ring t f x → ReadsAt ring t g y → (f ≡ g) × (x ≡ y)
+  pub one-read-at : length ring ≡ 63 → t ≤ 5 → (f g x y : List ℕ) → ReadsAt ring t f x → ReadsAt ring t g y → (f ≡ g) × (x ≡ y)
   one-read-at long small f g x y p q =
       let e : p .start ≡ q .start = ap (λ (l : List ℕ). getD l 0 0) (one-those (p .only) (q .only)) in
       let h : x ≡ y = one-within t (placed (q .start) ring) x y (kept (q .start) .long ring) small (rw e at (p .within)) (q .within) in

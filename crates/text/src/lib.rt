@@ -13,7 +13,7 @@ pub fn put_line(out: &mut [u8], at: usize, word: &[u8], numbers: &[u16]) -> usiz
 }
 
 // Writes a word.
-fn put_word(out: &mut [u8], at: usize, word: &[u8]) -> usize
+pub fn put_word(out: &mut [u8], at: usize, word: &[u8]) -> usize
     ensures { λ r. ⌜ Puts (now (out .entry)) (now (out .exit)) at r (now (word .entry)) ⌝ }
 {
     let mut next = at;
@@ -58,7 +58,7 @@ fn put_number(out: &mut [u8], at: usize, n: u16) -> usize
 }
 
 // Writes a byte, where there is room for one.
-fn put_byte(out: &mut [u8], at: usize, x: u8) -> usize
+pub fn put_byte(out: &mut [u8], at: usize, x: u8) -> usize
     ensures { λ r. ⌜ Puts (now (out .entry)) (now (out .exit)) at r (x ∷ []) ⌝ }
 {
     if at >= out.len() {

@@ -11,6 +11,7 @@ mod even;
 mod false_starts;
 mod field;
 mod line;
+mod panel;
 mod ring;
 mod scans;
 mod twice;
@@ -34,6 +35,8 @@ const READ_RING: Call = Call(10, "read_ring");
 const ENCODE_BLOCK: Call = Call(11, "encode_block");
 const READ_BLOCK: Call = Call(12, "read_block");
 const BETTER_SCAN: Call = Call(13, "better_scan");
+const PANEL_TEXT: Call = Call(14, "panel_text");
+const PANEL_RING: Call = Call(15, "panel_ring");
 
 /// What is handed over: the head's fields, and the input.
 struct Case<'a> {
@@ -103,6 +106,7 @@ pub fn stored() -> (Vec<u8>, String) {
         twice::add_all,
         changes::add_all,
         scans::add_all,
+        panel::add_all,
     ];
     for add_all in sections {
         add_all(&mut cases);

@@ -38,6 +38,12 @@ pub struct Ring {
 }
 
 #[repr(C)]
+pub struct Panel {
+    pub answer: u8,
+    pub length: u16,
+}
+
+#[repr(C)]
 pub struct Block {
     pub answer: u8,
     pub distance: u8,
@@ -72,6 +78,8 @@ extern "C" {
     pub fn film_better_scan(first: *const u8, first_len: usize, second: *const u8, second_len: usize, radius: u8) -> Choice;
     pub fn film_list_ring(ring: *const u8, ring_len: usize, radius: u8, out: *mut u8, out_len: usize) -> List;
     pub fn film_read_ring(ring: *const u8, ring_len: usize, radius: u8, out: *mut u8, out_len: usize) -> Ring;
+    pub fn film_panel_text(text: *const u8, text_len: usize, out: *mut u8, out_len: usize) -> Panel;
+    pub fn film_panel_ring(ring: *const u8, ring_len: usize, radius: u8, out: *mut u8, out_len: usize) -> Panel;
     pub fn film_encode_block(data: *const u8, data_len: usize, out: *mut u8, out_len: usize) -> u8;
     pub fn film_read_block(rows: *const u8, rows_len: usize, out: *mut u8, out_len: usize) -> Block;
     pub fn film_step(before: Register, c: u8) -> Stepped;

@@ -3,8 +3,8 @@
 //!
 //! tools/compare-library builds and runs it: library ROUNDS [SEED]. Each output lies between two rows of bytes that must stay, and so does each
 //! input, which must stay too. All pairs of operands are tried, every length up to 300, a byte that is too high at every place, and the rows of the
-//! bench sheet; the rest is random, and the same in every run with that seed. second/library/requests.rs has what the change requests speak of. At the end
-//! each call must have given each answer that it can give.
+//! bench sheet; the rest is random, and the same in every run with that seed. second/library/ has the calls of registers, and what the change requests
+//! speak of. At the end each call must have given each answer that it can give.
 
 // Of the second program only what answers is called here; what writes the stored files is not.
 #![allow(dead_code)]
@@ -20,8 +20,11 @@ mod finger;
 mod interface;
 mod lent;
 mod line;
+mod panel;
 mod random;
 mod refusals;
+#[path = "library/registers.rs"]
+mod registers;
 #[path = "library/requests.rs"]
 mod requests;
 mod ring;
@@ -32,6 +35,7 @@ use code::{added, marks, with_errors, Code};
 use interface::*;
 use lent::Lent;
 use line::{number, random_addresses, random_errors, random_line};
+use panel::{random_note, PLAIN, ROOM};
 use random::Random;
 use refusals::*;
 use std::collections::BTreeMap;
@@ -39,10 +43,10 @@ use std::fmt::Debug;
 use std::process::exit;
 
 /// The version that the library has to tell. tools/tables writes it from version.txt.
-const VERSION: u32 = 4000000;
+const VERSION: u32 = 4001000;
 
 /// Each call, and every answer that it can give.
-const ANSWERS: [(&str, &[u8]); 13] = [
+const ANSWERS: [(&str, &[u8]); 15] = [
     ("sum", &[0, VALUE_OVER]),
     ("product", &[0, VALUE_OVER]),
     ("quotient", &[0, VALUE_OVER, QUOTIENT_BY_ZERO]),
@@ -52,6 +56,8 @@ const ANSWERS: [(&str, &[u8]); 13] = [
     ("better_scan", &[0, INPUT_LENGTH, VALUE_OVER, RADIUS_OVER, NO_LINE]),
     ("list_ring", &[0, INPUT_LENGTH, VALUE_OVER, RADIUS_OVER, OUTPUT_LENGTH]),
     ("read_ring", &[0, INPUT_LENGTH, VALUE_OVER, RADIUS_OVER, OUTPUT_LENGTH, NO_LINE, MANY_STARTS]),
+    ("panel_text", &[0, INPUT_LENGTH, VALUE_OVER, OUTPUT_LENGTH, TEMPLATE, UNKNOWN_KIND]),
+    ("panel_ring", &[0, INPUT_LENGTH, VALUE_OVER, RADIUS_OVER, OUTPUT_LENGTH, NO_LINE, MANY_STARTS, TEMPLATE, UNKNOWN_KIND]),
     ("encode_block", &[0, VALUE_OVER, OUTPUT_LENGTH, ROW_COUNT]),
     ("read_block", &[0, OUTPUT_LENGTH, ROW_COUNT, NO_BLOCK]),
     ("step", &[0, VALUE_OVER, REGISTER_FULL]),
@@ -136,6 +142,28 @@ impl Comparison {
         });
     }
 
+    fn panel_text(&mut self, text: &[u8], room: usize) {
+        let due = panel::text(text, room);
+        if let Some(back) = panel::undone(&due) {
+            assert_eq!(back, text[1..]);
+        }
+        self.call("panel_text", text, &[], due, |given, out| unsafe {
+            let r = film_panel_text(given, text.len(), out, room);
+            vec![r.answer as usize, r.length as usize]
+        });
+    }
+
+    /// What was written for a ring, undone, is given back.
+    fn panel_ring(&mut self, ring: &[u8], radius: u8, room: usize) -> Option<Vec<u8>> {
+        let due = panel::ring(&self.code, ring, radius, room);
+        let back = panel::undone(&due);
+        self.call("panel_ring", ring, &[radius as usize], due, |given, out| unsafe {
+            let r = film_panel_ring(given, ring.len(), radius, out, room);
+            vec![r.answer as usize, r.length as usize]
+        });
+        back
+    }
+
     fn encode_block(&mut self, data: &[u8], room: usize) {
         let (answer, _, output) = block::encode(data, room);
         let due = (vec![answer as usize], output);
@@ -149,19 +177,6 @@ impl Comparison {
             let r = film_read_block(given, rows.len(), out, room);
             vec![r.answer as usize, r.distance as usize]
         });
-    }
-
-    /// A step and asking, of one register; what the step leaves is given back.
-    fn register(&mut self, held: [u8; 11], count: u8, c: u8) -> ([u8; 11], u8) {
-        let mut second = encoder::Register { held: held.to_vec(), count };
-        let (answer, checks) = second.checks();
-        let r = unsafe { film_checks(Register { held, count }) };
-        self.hold("checks", &(held, count), (vec![r.answer as usize], r.checks.to_vec()), (vec![answer as usize], checks));
-        let answer = second.step(c);
-        let r = unsafe { film_step(Register { held, count }, c) };
-        let given = (vec![r.answer as usize], (r.after.held.to_vec(), r.after.count));
-        self.hold("step", &(held, count, c), given, (vec![answer as usize], (second.held, second.count)));
-        (r.after.held, r.after.count)
     }
 
     /// A number below one bound, or, one time in eight, below another.
@@ -193,6 +208,7 @@ impl Comparison {
     /// Every length from 0 to 300 of each input and of each output, with other things wrong at times.
     fn lengths(&mut self) {
         let line = random_line(&self.code, &mut self.random);
+        let note = random_note(&self.code, &mut self.random, PLAIN);
         for length in 0..=300 {
             let high = [64, 256][length % 2];
             let (input, radius, wanted) = (self.random.bytes(length, high), self.random.below(8) as u8, self.random.below(8192) as u16);
@@ -209,6 +225,10 @@ impl Comparison {
             self.list_ring(&line, radius, length);
             self.read_ring(&input, radius, 63);
             self.read_ring(&line, radius, length);
+            self.panel_text(&input, ROOM);
+            self.panel_text(&note[..50], length);
+            self.panel_ring(&input, radius, ROOM);
+            self.panel_ring(&note, radius, length);
             self.read_block(&input, length);
             self.read_block(&line, length);
             self.encode_block(&input, length + 1);
@@ -230,10 +250,12 @@ impl Comparison {
                 self.read_line(&word, radius, Some(4096), 63);
                 self.list_ring(&word, radius, 126);
                 self.read_ring(&word, radius, 63);
+                self.panel_ring(&word, radius, ROOM);
                 self.better_scan(&word, &word, radius);
                 self.better_scan(&word, &[0; 62], radius);
             }
             self.encode_line(&word[..50], 4096, 63);
+            self.panel_text(&word[..50], ROOM);
             let mut data = self.random.bytes(63, 128);
             data[place] += 128;
             self.encode_block(&data, 64);
@@ -254,6 +276,7 @@ impl Comparison {
                 self.read_line(ring, radius, None, 63);
                 self.list_ring(ring, radius, 126);
                 self.read_ring(ring, radius, 63);
+                self.panel_ring(ring, radius, ROOM);
             }
         }
         for number in [0, 65, 4095, 4096] {
@@ -270,31 +293,6 @@ impl Comparison {
                 self.register([held; 11], count, 1);
             }
         }
-    }
-
-    /// A line's text, character by character: the register holds what it should after each.
-    fn by_the_character(&mut self) {
-        let line = random_line(&self.code, &mut self.random);
-        let (mut held, mut count) = ([0; 11], 0);
-        for &c in &line[..52] {
-            (held, count) = self.register(held, count, c);
-        }
-        self.register(held, count, 0);
-        let checks = unsafe { film_checks(Register { held, count }).checks };
-        self.hold("checks", &line, (vec![0], checks.to_vec()), (vec![0], line[52..].to_vec()));
-    }
-
-    /// A register that no text need give: any characters, at times over 63, and any count, most often about 52.
-    fn any_register(&mut self) {
-        let mut held: [u8; 11] = self.random.bytes(11, 64).try_into().unwrap();
-        held[self.random.below(11)] = self.below(64, 256) as u8;
-        let count = match self.random.below(4) {
-            0 => self.random.below(256),
-            1 => self.random.below(52),
-            _ => 50 + self.random.below(5),
-        };
-        let c = self.below(64, 256) as u8;
-        self.register(held, count as u8, c);
     }
 
     /// A word: a line with some wrong characters, about as many as the radius; without its marks; dark; random; or with a byte over 63.
@@ -344,6 +342,7 @@ impl Comparison {
             let ring = ring::recorded(&word, self.random.below(126));
             self.list_ring(&ring, radius, 126);
             self.read_ring(&ring, radius, 63);
+            self.panel_ring(&ring, radius, ROOM);
         }
     }
 }
@@ -363,6 +362,7 @@ fn main() {
     comparison.high_bytes();
     comparison.bench_rows();
     comparison.dark_and_bright();
+    comparison.panel_bytes();
     for i in 0..rounds {
         comparison.round(i % 8 == 0);
         if i % 8 == 0 {
@@ -371,6 +371,8 @@ fn main() {
             comparison.even_columns();
             comparison.roots_twice();
             comparison.two_scans();
+            comparison.panel_texts();
+            comparison.panel_rings();
         }
         if i % 64 == 0 {
             comparison.by_the_character();

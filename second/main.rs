@@ -14,6 +14,7 @@ mod even;
 mod false_starts;
 mod field;
 mod line;
+mod panel;
 mod random;
 mod refusals;
 mod ring;

@@ -51,6 +51,10 @@ const READ_BLOCK: u8 = 12;
 
 const BETTER_SCAN: u8 = 13;
 
+const PANEL_TEXT: u8 = 14;
+
+const PANEL_RING: u8 = 15;
+
 // The length of a head.
 const HEAD: usize = 8;
 
@@ -270,6 +274,16 @@ fn better_of_two(both: &[u8], length: usize, radius: u8) {
     }
 }
 
+fn panel_text(text: &[u8], output: &mut [u8]) {
+    let given = film::film_panel_text(text, output);
+    show(b"panel_text", &[given.answer as u16, given.length], output);
+}
+
+fn panel_ring(ring: &[u8], radius: u8, output: &mut [u8]) {
+    let given = film::film_panel_ring(ring, radius, output);
+    show(b"panel_ring", &[given.answer as u16, given.length], output);
+}
+
 fn encode_block(rows: &[u8], output: &mut [u8]) {
     let answer = film::film_encode_block(rows, output);
     show(b"encode_block", &[answer as u16], output);
@@ -298,6 +312,8 @@ fn hand_over(call: u8, small: u8, number: u16, input: &[u8], output: &mut [u8]) 
         ENCODE_BLOCK => encode_block(input, output),
         READ_BLOCK => read_block(input, output),
         BETTER_SCAN => better_of_two(input, wide(number), small),
+        PANEL_TEXT => panel_text(input, output),
+        PANEL_RING => panel_ring(input, small, output),
         _ => pass_over(),
     }
 }

@@ -179,6 +179,12 @@ pub printable-ascii : (b : ℕ) → Printable b → (32 ≤ b) × (b ≤ 126)
 printable-ascii b (inl (least, most)) = (least, omega arith)
 printable-ascii b (inr e) = let a = names-ascii b e in (a .least, a .most)
 
+-- the characters of &, <, >, ", ' and A are written as &amp;&lt;&gt;&quot;&#39;A
+pub escaped-five : escaped (6 ∷ 28 ∷ 30 ∷ 2 ∷ 7 ∷ 33 ∷ [])
+    ≡ 38 ∷ 97 ∷ 109 ∷ 112 ∷ 59 ∷ 38 ∷ 108 ∷ 116 ∷ 59 ∷ 38 ∷ 103 ∷ 116 ∷ 59 ∷ 38 ∷ 113 ∷ 117 ∷ 111 ∷ 116 ∷ 59 ∷ 38 ∷ 35 ∷ 51 ∷ 57 ∷ 59 ∷ 65 ∷ []
+unfolding escaped writtenBy
+escaped-five = refl
+
 -- undoing passes over a name that is not whole and over an ampersand that begins none; and it is done once: &amp;lt; gives &lt;
 pub undone-once : (undone (38 ∷ 97 ∷ 109 ∷ 112 ∷ 59 ∷ 108 ∷ 116 ∷ 59 ∷ []) ≡ 38 ∷ 108 ∷ 116 ∷ 59 ∷ [])
     × (undone (38 ∷ 108 ∷ 116 ∷ []) ≡ 38 ∷ 108 ∷ 116 ∷ [])

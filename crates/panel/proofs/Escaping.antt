@@ -5,14 +5,14 @@ use mathlib.Core.Logic.{inl, inr}
 use mathlib.Core.List.{List, [], _∷_, _++_, map, append-nil, append-assoc}
 use Prim.Native.Nat.{ℕ, suc, _+_, _*_, _<_, _≤_}
 use native.Mathlib.Omega.{arith}
-use lib.Dec.{T, leb, leb→le}
+use lib.Dec.{T, leb, eqb, leb→le, eqb→eq}
 use lib.ListN.{length, getD, length-append}
 use borrow.Author.Tests.{ne-eqb}
 use Rattle.numbers.proofs.Range.{both, both-left, both-right}
 use Rattle.numbers.proofs.Entries.{every}
 use Rattle.panel.specs.Escaping.{names, written, escaped}
 use Rattle.panel.specs.Harmless.{Harmless, begins, beginsOne, beginsName, standsIn, standsInOne, Printable, readBy, undoneAfter, undone}
-use Rattle.panel.proofs.Names.{Unnamed, isUnnamed, is-unnamed, by-names, EachByte, tested-before, stands-in-one}
+use Rattle.panel.proofs.Names.{Unnamed, isUnnamed, is-unnamed, tested-names, by-names, EachByte, tested-before, stands-in-one, begins-one-more}
 
 pub escaped-append : (s t : List ℕ) → escaped (s ++ t) ≡ escaped s ++ escaped t
 unfolding escaped
@@ -28,7 +28,7 @@ escaped-one v = append-nil (written (32 + v))
 
 written-long : (b : ℕ) → length (written b) ≤ 6
 written-long b =
-    by-names (λ b s. length s ≤ 6) b names (omega arith, (omega arith, (omega arith, (omega arith, (omega arith, tt))))) (λ u. omega arith)
+    by-names (λ b s. length s ≤ 6) b names (tested-names (λ b s. length s ≤ 6) (λ s. leb (length s) 6) (λ b s t. leb→le (length s) 6 t) names tt) (λ u. omega arith)
 
 pub escaped-long : (vs : List ℕ) → length (escaped vs) ≤ 6 * length vs
 unfolding escaped
@@ -36,6 +36,10 @@ escaped-long [] = omega arith
 escaped-long (v ∷ vs) = omega (arith, length-append (written (32 + v)) (escaped vs), written-long (32 + v), escaped-long vs)
 
 -- ---- each byte
+
+is-true : (t : Bool) → T t → t ≡ true
+is-true true h = refl
+is-true false h = absurd h
 
 -- what holds in front of a text for each byte that a character may stand for holds of each byte that is written
 escaped-each : (P : ℕ → List ℕ → Type 0) (Q : ℕ → Type 0) → ((bs : List ℕ) → EachByte P bs → (b : ℕ) → Q b → EachByte P (written b ++ bs))
@@ -57,32 +61,30 @@ unnamed-fine b bs u =
       name = λ e. absurd (u .0 e);
     }
 
--- a name: an ampersand that begins it, and bytes that have no name
-name-fine : (s bs : List ℕ) → beginsName (38 ∷ (s ++ bs)) ≡ true → T (every (λ _. isUnnamed names) s) → EachByte Fine bs → EachByte Fine (38 ∷ (s ++ bs))
-name-fine s bs e t each = (
-  record {
-    harmless = record { not-less = λ q. omega arith; not-greater = λ q. omega arith; not-quote = λ q. omega arith; not-apostrophe = λ q. omega arith };
-    name = λ _. e;
-  },
-  tested-before Fine (isUnnamed names) (λ b bs u. unnamed-fine b bs (is-unnamed names b u)) s bs t each,
-)
+-- a name: an ampersand that begins one of the five, and bytes that have no name
+fineName : List ℕ → Bool
+fineName [] = false
+fineName (b ∷ s) = both (eqb b 38) (both (beginsName (b ∷ s)) (every (λ _. isUnnamed names) s))
+
+name-fine : (s bs : List ℕ) → T (fineName s) → EachByte Fine bs → EachByte Fine (s ++ bs)
+unfolding fineName
+name-fine [] bs t each = absurd t
+name-fine (b ∷ s) bs t each =
+    let e : b ≡ 38 = eqb→eq b 38 (both-left (eqb b 38) (both (beginsName (b ∷ s)) (every (λ _. isUnnamed names) s)) t) in
+    let u = both-right (eqb b 38) (both (beginsName (b ∷ s)) (every (λ _. isUnnamed names) s)) t in
+    let n = begins-one-more names (b ∷ s) bs (both-left (beginsName (b ∷ s)) (every (λ _. isUnnamed names) s) u) in (
+      record {
+        harmless = record { not-less = λ q. omega arith; not-greater = λ q. omega arith; not-quote = λ q. omega arith; not-apostrophe = λ q. omega arith };
+        name = λ _. is-true (beginsName (b ∷ (s ++ bs))) n;
+      },
+      tested-before Fine (isUnnamed names) (λ c cs u. unnamed-fine c cs (is-unnamed names c u)) s bs
+          (both-right (beginsName (b ∷ s)) (every (λ _. isUnnamed names) s) u) each,
+    )
 
 written-fine : (bs : List ℕ) → EachByte Fine bs → (b : ℕ) → EachByte Fine (written b ++ bs)
-unfolding begins beginsOne isUnnamed
+unfolding begins beginsOne isUnnamed fineName
 written-fine bs each b =
-    by-names (λ b s. EachByte Fine (s ++ bs)) b names (
-      name-fine (97 ∷ 109 ∷ 112 ∷ 59 ∷ []) bs refl tt each,
-      (
-        name-fine (108 ∷ 116 ∷ 59 ∷ []) bs refl tt each,
-        (
-          name-fine (103 ∷ 116 ∷ 59 ∷ []) bs refl tt each,
-          (
-            name-fine (113 ∷ 117 ∷ 111 ∷ 116 ∷ 59 ∷ []) bs refl tt each,
-            (name-fine (35 ∷ 51 ∷ 57 ∷ 59 ∷ []) bs refl tt each, tt),
-          ),
-        ),
-      ),
-    )
+    by-names (λ b s. EachByte Fine (s ++ bs)) b names (tested-names (λ b s. EachByte Fine (s ++ bs)) fineName (λ b s t. name-fine s bs t each) names tt)
     (λ u. (unnamed-fine b bs u, each))
 
 pub escaped-fine : (vs : List ℕ) → EachByte Fine (escaped vs)
@@ -92,13 +94,6 @@ escaped-fine vs = escaped-each Fine (λ _. Unit {0}) (λ bs each b _. written-fi
 abbrev pub PrintableThere : ℕ → List ℕ → Type 0
 PrintableThere b bs = Printable b
 
-is-true : (t : Bool) → T t → t ≡ true
-is-true true h = refl
-is-true false h = absurd h
-
-name-printable : (s bs : List ℕ) → T (every (λ _ b. standsInOne b names) s) → EachByte PrintableThere bs → EachByte PrintableThere (s ++ bs)
-name-printable = tested-before PrintableThere (λ b. standsInOne b names) (λ b bs t. inr (is-true (standsInOne b names) t))
-
 -- the bytes that characters stand for
 pub record Letter (b : ℕ) : Type 0 where
   pub least : 32 ≤ b
@@ -107,19 +102,9 @@ pub record Letter (b : ℕ) : Type 0 where
 written-printable : (bs : List ℕ) → EachByte PrintableThere bs → (b : ℕ) → Letter b → EachByte PrintableThere (written b ++ bs)
 unfolding standsIn standsInOne
 written-printable bs each b l =
-    by-names (λ b s. EachByte PrintableThere (s ++ bs)) b names (
-      name-printable (38 ∷ 97 ∷ 109 ∷ 112 ∷ 59 ∷ []) bs tt each,
-      (
-        name-printable (38 ∷ 108 ∷ 116 ∷ 59 ∷ []) bs tt each,
-        (
-          name-printable (38 ∷ 103 ∷ 116 ∷ 59 ∷ []) bs tt each,
-          (
-            name-printable (38 ∷ 113 ∷ 117 ∷ 111 ∷ 116 ∷ 59 ∷ []) bs tt each,
-            (name-printable (38 ∷ 35 ∷ 51 ∷ 57 ∷ 59 ∷ []) bs tt each, tt),
-          ),
-        ),
-      ),
-    )
+    by-names (λ b s. EachByte PrintableThere (s ++ bs)) b names
+    (tested-names (λ b s. EachByte PrintableThere (s ++ bs)) (every (λ _ c. standsInOne c names))
+    (λ b s t. tested-before PrintableThere (λ c. standsInOne c names) (λ c _ u. inr (is-true (standsInOne c names) u)) s bs t each) names tt)
     (λ u. (inl (l .least, l .most), each))
 
 pub escaped-printable : (vs : List ℕ) → ((a : ℕ) → a < length vs → getD vs a 0 < 64) → EachByte PrintableThere (escaped vs)
@@ -134,28 +119,16 @@ pub record Ascii (b : ℕ) : Type 0 where
 inAscii : ℕ → Bool
 inAscii b = both (leb 32 b) (leb b 126)
 
-name-ascii : (s : List ℕ) → T (every (λ _. inAscii) s) → EachByte (λ b _. Ascii b) (s ++ [])
+is-ascii : (b : ℕ) → T (inAscii b) → Ascii b
 unfolding inAscii
-name-ascii s t =
-    tested-before (λ b _. Ascii b) inAscii
-    (λ b _ u. record { least = leb→le 32 b (both-left (leb 32 b) (leb b 126) u); most = leb→le b 126 (both-right (leb 32 b) (leb b 126) u) }) s [] t tt
+is-ascii b t = record { least = leb→le 32 b (both-left (leb 32 b) (leb b 126) t); most = leb→le b 126 (both-right (leb 32 b) (leb b 126) t) }
 
 pub names-ascii : (b : ℕ) → standsInOne b names ≡ true → Ascii b
 unfolding inAscii
-names-ascii b =
-    stands-in-one Ascii b names (
-      name-ascii (38 ∷ 97 ∷ 109 ∷ 112 ∷ 59 ∷ []) tt,
-      (
-        name-ascii (38 ∷ 108 ∷ 116 ∷ 59 ∷ []) tt,
-        (
-          name-ascii (38 ∷ 103 ∷ 116 ∷ 59 ∷ []) tt,
-          (
-            name-ascii (38 ∷ 113 ∷ 117 ∷ 111 ∷ 116 ∷ 59 ∷ []) tt,
-            (name-ascii (38 ∷ 35 ∷ 51 ∷ 57 ∷ 59 ∷ []) tt, tt),
-          ),
-        ),
-      ),
-    )
+names-ascii b = stands-in-one Ascii b names (tested-names (λ _ s. EachByte (λ c _. Ascii c) s) (every (λ _. inAscii)) (λ _ s t. all-ascii s t) names tt)
+  where
+    all-ascii : (s : List ℕ) → T (every (λ _. inAscii) s) → EachByte (λ c _. Ascii c) s
+    all-ascii s t = rw append-nil at (tested-before (λ c _. Ascii c) inAscii (λ c _ u. is-ascii c u) s [] t tt)
 
 -- ---- undoing
 

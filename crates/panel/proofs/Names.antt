@@ -1,4 +1,4 @@
--- Laws of a table of names: what is written for a byte, case by case; and of what holds of each byte of a text, told what follows it.
+-- Laws of a table of names: what is written for a byte, case by case; of what holds of each byte of a text, told what follows it; and of texts that begin with a name.
 use mathlib.Core.Path.{_≡_, refl, sym}
 use mathlib.Core.Bool.{Bool, true, false, cond, true≢false}
 use mathlib.Core.List.{List, [], _∷_, _++_}
@@ -11,7 +11,7 @@ use borrow.Author.Tests.{eq-eqb, ne-eqb}
 use Rattle.numbers.proofs.Range.{both-left, both-right}
 use Rattle.numbers.proofs.Entries.{every}
 use Rattle.panel.specs.Escaping.{Named, writtenBy}
-use Rattle.panel.specs.Harmless.{standsIn, standsInOne}
+use Rattle.panel.specs.Harmless.{begins, beginsOne, standsIn, standsInOne}
 
 -- ---- a byte and some names
 
@@ -38,6 +38,15 @@ is-unnamed (n ∷ ns) b t = go (ℕ-discrete b (n .byte)) (is-unnamed ns b)
 abbrev pub EachName : (ℕ → List ℕ → Type 0) → List Named → Type 0
 EachName P [] = Unit {0}
 EachName P (n ∷ ns) = P (n .byte) (n .name) × EachName P ns
+
+-- it holds where a test of the name passes, so of names that all pass it
+pub tested-names : (P : ℕ → List ℕ → Type 0) (test : List ℕ → Bool) → ((b : ℕ) (s : List ℕ) → T (test s) → P b s) → (ns : List Named)
+    → T (every (λ _ n. test (n .name)) ns) → EachName P ns
+tested-names P test law [] t = tt
+tested-names P test law (n ∷ ns) t = (
+  law (n .byte) (n .name) (both-left (test (n .name)) (every (λ _ n. test (n .name)) ns) t),
+  tested-names P test law ns (both-right (test (n .name)) (every (λ _ n. test (n .name)) ns) t),
+)
 
 -- what holds of each byte and its name, and of a byte that has none and itself, holds of every byte and what is written for it
 pub by-names : (P : ℕ → List ℕ → Type 0) (b : ℕ) (ns : List Named) → EachName P ns → (Unnamed ns b → P b (b ∷ [])) → P b (writtenBy ns b)
@@ -90,3 +99,25 @@ module _ (Q : ℕ → Type 0) (b : ℕ) where
       go : (t : Bool) → (t ≡ true → Q b) → (standsInOne b ns ≡ true → Q b) → cond t true (standsInOne b ns) ≡ true → Q b
       go true here rest e = here refl
       go false here rest e = rest e
+
+-- ---- a text that begins with a name does so whatever follows
+
+begins-more : (cs s bs : List ℕ) → T (begins cs s) → T (begins cs (s ++ bs))
+unfolding begins
+begins-more [] s bs t = tt
+begins-more (c ∷ cs) [] bs t = absurd t
+begins-more (c ∷ cs) (b ∷ s) bs t = go (eqb c b) (begins-more cs s bs) t
+  where
+    go : (e : Bool) → (T (begins cs s) → T (begins cs (s ++ bs))) → T (cond e (begins cs s) false) → T (cond e (begins cs (s ++ bs)) false)
+    go true rest t = rest t
+    go false rest t = t
+
+pub begins-one-more : (ns : List Named) (s bs : List ℕ) → T (beginsOne ns s) → T (beginsOne ns (s ++ bs))
+unfolding beginsOne
+begins-one-more [] s bs t = t
+begins-one-more (n ∷ ns) s bs t = go (begins (n .name) s) (begins (n .name) (s ++ bs)) (begins-more (n .name) s bs) (begins-one-more ns s bs) t
+  where
+    go : (e f : Bool) → (T e → T f) → (T (beginsOne ns s) → T (beginsOne ns (s ++ bs))) → T (cond e true (beginsOne ns s)) → T (cond f true (beginsOne ns (s ++ bs)))
+    go e true keep rest t = tt
+    go true false keep rest t = absurd (keep tt)
+    go false false keep rest t = rest t

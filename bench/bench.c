@@ -1,12 +1,10 @@
 /* The benchmark: the library, libfec and the second program on the same words, interleaved, the minimum of many rounds.
  *
  * bench/run builds and runs it. A time is that of the whole call, from the caller's characters to the caller's line, number, distance
- * and changed addresses. libfec knows neither marks nor numbers nor rings, so a small adapter takes the marks off and puts them on again, and
- * turns a ring 126 times. Unlike the library it tests no lengths and no characters. Before anything is timed, all peers must
- * give the same answers on all words. */
+ * and changed addresses, or text. bench/peers.c has libfec, and plain C for what libfec has nothing of. Before anything is timed, all peers
+ * must give the same answers on all words. */
 #include "bench.h"
 #include "film.h"
-#include <fec.h>
 #include <stdio.h>
 #include <stdlib.h>
 #include <string.h>
@@ -70,120 +68,17 @@ static void ours_quotients(const uint8_t *input, uint8_t radius, reply *r) {
     }
 }
 
-/* ---- libfec: six bits, x^6 + x + 1, roots from α^58 on, one apart, eleven of them, nothing padded. */
-
-static void *fec;
-
-static void marks(uint8_t *word) {
-    word[52] ^= 32;
-    word[55] ^= 8;
-    word[62] ^= 1;
+static void ours_panel(film_panel panel, reply *r) {
+    r->answer = panel.answer, r->distance = 0, r->number = 0, r->length = panel.length;
 }
 
-/* It has no encoder by the character: a whole line stands for both, and so it does for the second program, whose register is not written
- * for speed. */
-static void fec_encode(const uint8_t *input, uint8_t radius, reply *r) {
+static void ours_panel_text(const uint8_t *input, uint8_t radius, reply *r) {
     (void)radius;
-    memcpy(r->out, input, 52);
-    encode_rs_char(fec, r->out, r->out + 52);
-    marks(r->out);
-    r->answer = 0, r->distance = 0, r->number = 0, r->length = 63;
+    ours_panel(film_panel_text(input, FILM_TEXT, r->out, sizeof r->out), r);
 }
 
-/* The number of characters that were mended, or -1, and their addresses where there is room for them. */
-static int fec_mend(uint8_t *word, int *addresses) {
-    marks(word);
-    int mended = decode_rs_char(fec, word, addresses, 0);
-    marks(word);
-    return mended;
-}
-
-static void fec_read(const uint8_t *input, uint8_t radius, reply *r) {
-    int addresses[11];
-    memcpy(r->out, input, 63);
-    int mended = fec_mend(r->out, addresses);
-    if (mended < 0 || mended > radius) {
-        r->answer = FILM_NO_LINE, r->distance = 0, r->number = 0, r->length = 0, r->first = 0, r->last = 0;
-        return;
-    }
-    int first = FILM_NOWHERE, last = mended == 0 ? FILM_NOWHERE : 0;
-    for (int i = 0; i < mended; i++) {
-        first = addresses[i] < first ? addresses[i] : first;
-        last = addresses[i] > last ? addresses[i] : last;
-    }
-    r->answer = 0, r->distance = (uint8_t)mended, r->number = (uint16_t)(r->out[50] * 64 + r->out[51]), r->length = 63;
-    r->first = (uint8_t)first, r->last = (uint8_t)last;
-}
-
-/* Both scans are mended, and the nearer is kept. */
-static void fec_better(const uint8_t *input, uint8_t radius, reply *r) {
-    uint8_t words[126];
-    memcpy(words, input, 126);
-    int first = fec_mend(words, NULL), second = fec_mend(words + 63, NULL);
-    int is_first = first >= 0 && first <= radius, is_second = second >= 0 && second <= radius;
-    r->number = is_second && (!is_first || second < first) ? 2 : is_first ? 1 : 0;
-    r->answer = r->number == 0 ? FILM_NO_LINE : FILM_DONE, r->distance = 0, r->length = 0;
-}
-
-static void fec_list(const uint8_t *input, uint8_t radius, reply *r) {
-    uint8_t ring[126], word[63], back[126];
-    r->answer = 0, r->distance = 0, r->number = 0, r->length = 0;
-    for (int i = 0; i < 126; i++)
-        ring[i] = input[i % 63], back[i] = input[(125 - i) % 63];
-    for (int k = 0; k < 126; k++) {
-        memcpy(word, k < 63 ? ring + k : back + (62 - (k - 63)), 63);
-        int mended = fec_mend(word, NULL);
-        if (mended >= 0 && mended <= radius)
-            r->out[r->length++] = (uint8_t)k;
-    }
-}
-
-/* libfec has no parity blocks. The peer here is plain C: the odd rows, the even columns, and one bit flipped at most. */
-static void plain_block(const uint8_t *input, uint8_t radius, reply *r) {
-    (void)radius;
-    uint8_t columns = 255;
-    int odd = 0, row = 0;
-    for (int i = 0; i < 9; i++) {
-        columns ^= input[i];
-        if (__builtin_parity(input[i]))
-            odd++, row = i;
-    }
-    int faults = __builtin_popcount(columns);
-    r->answer = (odd == 0 && faults == 0) || (odd == 1 && faults == 1) ? FILM_DONE : FILM_NO_BLOCK;
-    r->distance = 0, r->number = 0, r->length = 0;
-    if (r->answer == 0) {
-        memcpy(r->out, input, 9);
-        r->out[row] ^= columns;
-        r->distance = (uint8_t)faults, r->length = 9;
-    }
-}
-
-/* Nor has libfec products and quotients. The peer is plain C by tables of logarithms; unlike the library it does not test that an operand is an
- * element. */
-static uint8_t powers[126], logs[64];
-
-static void make_logs(void) {
-    for (unsigned i = 0, x = 1; i < 126; i++, x = x < 32 ? 2 * x : (2 * x) ^ 0x43)
-        powers[i] = (uint8_t)x, logs[x] = (uint8_t)(i % 63);
-}
-
-static void plain_products(const uint8_t *input, uint8_t radius, reply *r) {
-    (void)radius;
-    r->answer = 0, r->distance = 0, r->number = 0, r->length = 62;
-    for (int i = 0; i < 62; i++) {
-        uint8_t u = input[i], v = input[i + 1];
-        r->out[i] = u == 0 || v == 0 ? 0 : powers[logs[u] + logs[v]];
-    }
-}
-
-static void plain_quotients(const uint8_t *input, uint8_t radius, reply *r) {
-    (void)radius;
-    r->answer = 0, r->distance = 0, r->number = 0, r->length = 62;
-    for (int i = 0; i < 62; i++) {
-        uint8_t u = input[i], v = input[i + 1];
-        r->distance += v == 0;
-        r->out[i] = u == 0 || v == 0 ? 0 : powers[logs[u] + 63 - logs[v]];
-    }
+static void ours_panel_ring(const uint8_t *input, uint8_t radius, reply *r) {
+    ours_panel(film_panel_ring(input, FILM_CHARACTERS, radius, r->out, sizeof r->out), r);
 }
 
 /* ---- The rows, and their words. */
@@ -192,7 +87,7 @@ enum { LINES = 128, RINGS = 4, OURS = 0, FEC = 1, SECOND = 2, PEERS = 3, SELDOM 
 
 static const char *const peer_names[PEERS] = {"film", "libfec", "second"};
 
-typedef enum { ENCODE, READ, SCANS, RING, NOISE, BLOCK, FIELD } kind;
+typedef enum { ENCODE, READ, SCANS, RING, NOISE, BLOCK, FIELD, PANEL, PANEL_RING } kind;
 
 typedef struct {
     const char *name;
@@ -224,6 +119,8 @@ static row rows[] = {
     {"products_62", FIELD, 0, 0, {ours_products, plain_products, second_products}, {{0}}, {0}},
     {"quotients_62", FIELD, 0, 0, {ours_quotients, plain_quotients, second_quotients}, {{0}}, {0}},
     {"better_scan", SCANS, 1, 5, {ours_better, fec_better, second_better}, {{0}}, {0}},
+    {"panel_text", PANEL, 0, 0, {ours_panel_text, plain_panel_text, second_panel_text}, {{0}}, {0}},
+    {"panel_ring", PANEL_RING, 1, 1, {ours_panel_ring, fec_panel_ring, second_panel_ring}, {{0}}, {0}},
 };
 
 enum { ROWS = sizeof rows / sizeof rows[0] };
@@ -266,6 +163,9 @@ static void make_word(const row *w, uint8_t *word) {
     case NOISE:
     case FIELD:
         return;
+    case PANEL:
+        word[0] = PLAIN;
+        return;
     case BLOCK: {
         uint8_t data[8];
         for (int i = 0; i < 8; i++)
@@ -293,13 +193,16 @@ static void make_word(const row *w, uint8_t *word) {
         damage(word, w->wrong + more);
         damage(word + 63, w->wrong + 1 - more);
         return;
+    case PANEL_RING:
+        word[0] = PLAIN;
+        /* fall through */
     case RING: {
         fec_encode(word, 0, &r);
         memcpy(line, r.out, 63);
         damage(line, w->wrong);
         int start = (int)below(126);
         for (int a = 0; a < 63; a++)
-            word[start < 63 ? (start + a) % 63 : (start - a) % 63] = line[a];
+            word[place_at(start, a)] = line[a];
         return;
     }
     }
@@ -308,7 +211,7 @@ static void make_word(const row *w, uint8_t *word) {
 /* Two scans are two words, one after the other. */
 static int stride(const row *w) { return w->of == SCANS ? 2 : 1; }
 
-static int words_of(const row *w) { return w->of == RING || w->of == NOISE ? RINGS : LINES / stride(w); }
+static int words_of(const row *w) { return w->of == RING || w->of == NOISE || w->of == PANEL_RING ? RINGS : LINES / stride(w); }
 
 static void same_answers(const row *w) {
     for (int i = 0; i < words_of(w); i++) {
@@ -369,10 +272,8 @@ static void print_times(int rounds) {
 /* bench ROUNDS times everything; bench names prints the rows; bench once ROW PEER makes the calls of one row once, for callgrind, and prints
  * how many calls those are. */
 int main(int argc, char **argv) {
-    fec = init_rs_char(6, 0x43, 58, 1, 11, 0);
-    if (fec == NULL)
+    if (!prepare_peers())
         return 1;
-    make_logs();
     for (row *w = rows; w < rows + ROWS; w++)
         for (int i = 0; i < words_of(w); i++)
             make_word(w, w->words[i * stride(w)]);

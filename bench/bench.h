@@ -2,21 +2,32 @@
 #ifndef BENCH_H
 #define BENCH_H
 
+#include "film.h"
 #include <stdint.h>
 
-/* What a call gave. Where the answer is not 0, the other fields are 0, and so are those that a call has no use for. `out` gets `length` bytes. `first` and
- * `last` are the changed addresses of a line that was read. */
+/* The kinds of text that are known. */
+enum { PLAIN = 0, TEMPLATE = 1 };
+
+/* The ring place of an address at a start. */
+static inline int place_at(int start, int a) { return (start < FILM_CHARACTERS ? start + a : start - a) % FILM_CHARACTERS; }
+
+/* What a call gave. Where the answer is not 0, the other fields are 0, and so are those that a call has no use for. `out` gets `length` bytes, at most those of
+ * the longest text for a panel. `first` and `last` are the changed addresses of a line that was read. */
 typedef struct reply {
-    uint8_t answer, distance, length, first, last;
-    uint16_t number;
-    uint8_t out[126];
+    uint8_t answer, distance, first, last;
+    uint16_t length, number;
+    uint8_t out[FILM_PANEL];
 } reply;
 
-/* Encoding takes 52 characters, the last two of them the number; the others take the 63 characters or 9 rows, and a radius. Of two scans, 126 characters, the
- * number is 1 or 2, the scan that is kept. Products are those of each
- * character and the one after it, 62 of them; quotients likewise, 0 for one that is refused, and the distance is how many are. */
+/* Encoding takes 52 characters, the last two of them the number, and panel text takes 50; the others take the 63 characters or 9 rows, and a radius. Of two
+ * scans, 126 characters, the number is 1 or 2, the scan that is kept. Products are those of each character and the one after it, 62 of them; quotients
+ * likewise, 0 for one that is refused, and the distance is how many are. */
 typedef void call(const uint8_t *input, uint8_t radius, reply *r);
 
-call second_encode, second_read, second_better, second_list, second_block, second_products, second_quotients;
+/* libfec, or plain C; they have to be prepared once, which gives 0 where libfec cannot be. */
+int prepare_peers(void);
+call fec_encode, fec_read, fec_better, fec_list, fec_panel_ring, plain_block, plain_products, plain_quotients, plain_panel_text;
+
+call second_encode, second_read, second_better, second_list, second_block, second_products, second_quotients, second_panel_text, second_panel_ring;
 
 #endif

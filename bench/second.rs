@@ -12,6 +12,8 @@ mod encoder;
 mod field;
 #[path = "../second/line.rs"]
 mod line;
+#[path = "../second/panel.rs"]
+mod panel;
 #[path = "../second/random.rs"]
 mod random;
 #[path = "../second/refusals.rs"]
@@ -28,18 +30,18 @@ use std::sync::OnceLock;
 pub struct Reply {
     answer: u8,
     distance: u8,
-    length: u8,
     first: u8,
     last: u8,
+    length: u16,
     number: u16,
-    out: [u8; 126],
+    out: [u8; panel::ROOM],
 }
 
 impl Reply {
     fn set(&mut self, answer: u8, distance: usize, number: u16, out: &[u8]) {
         (self.answer, self.distance, self.number, self.length) = (answer, distance as u8, number, 0);
         if answer == 0 {
-            self.length = out.len() as u8;
+            self.length = out.len() as u16;
             self.out[..out.len()].copy_from_slice(out);
         }
     }
@@ -86,6 +88,18 @@ pub unsafe extern "C" fn second_quotients(input: *const u8, _: u8, r: &mut Reply
     let quotients: Vec<Option<u8>> = from_raw_parts(input, 63).windows(2).map(|two| field::quotient(two[0], two[1])).collect();
     let refused = quotients.iter().filter(|quotient| quotient.is_none()).count();
     r.set(0, refused, 0, &quotients.iter().map(|quotient| quotient.unwrap_or(0)).collect::<Vec<u8>>());
+}
+
+#[no_mangle]
+pub unsafe extern "C" fn second_panel_text(input: *const u8, _: u8, r: &mut Reply) {
+    let (numbers, out) = panel::text(from_raw_parts(input, panel::TEXT), panel::ROOM);
+    r.set(numbers[0] as u8, 0, 0, &out[..numbers[1]]);
+}
+
+#[no_mangle]
+pub unsafe extern "C" fn second_panel_ring(input: *const u8, radius: u8, r: &mut Reply) {
+    let (numbers, out) = panel::ring(code(), from_raw_parts(input, 63), radius, panel::ROOM);
+    r.set(numbers[0] as u8, 0, 0, &out[..numbers[1]]);
 }
 
 #[no_mangle]

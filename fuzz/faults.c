@@ -9,6 +9,8 @@ film_element __real_film_quotient(uint8_t u, uint8_t v);
 film_line __real_film_read_line(const uint8_t *word, size_t word_len, uint8_t radius, uint8_t *out, size_t out_len);
 film_choice __real_film_better_scan(const uint8_t *first, size_t first_len, const uint8_t *second, size_t second_len, uint8_t radius);
 film_list __real_film_list_ring(const uint8_t *ring, size_t ring_len, uint8_t radius, uint8_t *out, size_t out_len);
+film_panel __real_film_panel_text(const uint8_t *text, size_t text_len, uint8_t *out, size_t out_len);
+film_panel __real_film_panel_ring(const uint8_t *ring, size_t ring_len, uint8_t radius, uint8_t *out, size_t out_len);
 film_block __real_film_read_block(const uint8_t *rows, size_t rows_len, uint8_t *out, size_t out_len);
 
 film_element __wrap_film_product(uint8_t u, uint8_t v) {
@@ -75,6 +77,46 @@ film_list __wrap_film_list_ring(const uint8_t *ring, size_t ring_len, uint8_t ra
     if (r.answer == FILM_DONE && r.count == 13) {
         out[12] = 170;
         r.count = 12;
+    }
+#endif
+    return r;
+}
+
+film_panel __wrap_film_panel_text(const uint8_t *text, size_t text_len, uint8_t *out, size_t out_len) {
+    film_panel r = __real_film_panel_text(text, text_len, out, out_len);
+#if FAULT == 15 /* ' left as it is */
+    if (r.answer == FILM_DONE) {
+        static const char name[] = "&#39;";
+        uint16_t length = 0;
+        for (size_t at = 0; at < r.length; length++) {
+            int is_named = r.length - at >= strlen(name) && memcmp(out + at, name, strlen(name)) == 0;
+            out[length] = is_named ? '\'' : out[at];
+            at += is_named ? strlen(name) : 1;
+        }
+        memset(out + length, 170, r.length - length);
+        r.length = length;
+    }
+#elif FAULT == 16 /* a template taken for plain text */
+    if (r.answer == FILM_TEMPLATE) {
+        uint8_t plain[FILM_TEXT];
+        memcpy(plain, text, FILM_TEXT);
+        plain[0] = 0;
+        r = __real_film_panel_text(plain, FILM_TEXT, out, out_len);
+    }
+#endif
+    return r;
+}
+
+film_panel __wrap_film_panel_ring(const uint8_t *ring, size_t ring_len, uint8_t radius, uint8_t *out, size_t out_len) {
+    film_panel r = __real_film_panel_ring(ring, ring_len, radius, out, out_len);
+#if FAULT == 17 /* of more than one start the first */
+    if (r.answer == FILM_MANY_STARTS) {
+        uint8_t starts[FILM_STARTS], word[FILM_CHARACTERS], line[FILM_CHARACTERS];
+        __real_film_list_ring(ring, ring_len, radius, starts, FILM_STARTS);
+        for (int a = 0; a < FILM_CHARACTERS; a++)
+            word[a] = ring[(starts[0] < FILM_CHARACTERS ? starts[0] + a : starts[0] - a) % FILM_CHARACTERS];
+        __real_film_read_line(word, FILM_CHARACTERS, radius, line, FILM_CHARACTERS);
+        r = __real_film_panel_text(line, FILM_TEXT, out, out_len);
     }
 #endif
     return r;

@@ -1,4 +1,5 @@
 /* The fuzz target: every function of include/film.h on hostile bytes, each answer and each output byte held against plain C.
+ * rules.h has the rules.
  *
  * fuzz/run builds it with libFuzzer and the address and undefined-behaviour sanitizers, and runs it. The library is linked as it
  * is proved, so the sanitizers do not see into it. Its slices therefore lie against pages that nobody may touch: the input ends
@@ -6,6 +7,7 @@
  * fault. What is checked afterwards is a copy of exact size on the heap, where the sanitizers see this file's own reads. */
 #define _GNU_SOURCE
 #include "film.h"
+#include "rules.h"
 #include <stdio.h>
 #include <stdlib.h>
 #include <string.h>
@@ -22,11 +24,12 @@ static void fail(int line, const char *fact) {
 /* ---- Which answers each call can give, and how often it gave them. */
 
 enum {
-    SUM, PRODUCT, QUOTIENT, ENCODE_LINE, STEP, CHECKS, READ_LINE, READ_LINE_WANTED, LIST_RING, READ_RING, ENCODE_BLOCK, READ_BLOCK, BETTER_SCAN, CALLS
+    SUM, PRODUCT, QUOTIENT, ENCODE_LINE, STEP, CHECKS, READ_LINE, READ_LINE_WANTED, LIST_RING, READ_RING, ENCODE_BLOCK, READ_BLOCK, BETTER_SCAN,
+    PANEL_TEXT, PANEL_RING, CALLS
 };
 
 static const char *const names[CALLS] = {"sum", "product", "quotient", "encode_line", "step", "checks", "read_line", "read_line_wanted",
-                                         "list_ring", "read_ring", "encode_block", "read_block", "better_scan"};
+                                         "list_ring", "read_ring", "encode_block", "read_block", "better_scan", "panel_text", "panel_ring"};
 
 /* Bit n stands for answer n. */
 #define CAN(n) (UINT64_C(1) << (n))
@@ -45,6 +48,8 @@ static const uint64_t can_give[CALLS] = {
     CAN(0) | CAN(8) | CAN(5) | CAN(2),
     CAN(0) | CAN(8) | CAN(5) | CAN(9),
     CAN(0) | CAN(1) | CAN(2) | CAN(3) | CAN(6),
+    CAN(0) | CAN(1) | CAN(5) | CAN(2) | CAN(14) | CAN(15),
+    CAN(0) | CAN(1) | CAN(5) | CAN(2) | CAN(3) | CAN(6) | CAN(10) | CAN(14) | CAN(15),
 };
 
 static unsigned long given[CALLS][FILM_LAST_REFUSAL + 1];
@@ -125,89 +130,6 @@ static uint8_t *copied(const slice *s) {
     return copy;
 }
 
-/* ---- The rules in plain C. */
-
-static uint8_t power[63];
-static int logarithm[64];
-
-static uint8_t product(uint8_t u, uint8_t v) { return u && v ? power[(logarithm[u] + logarithm[v]) % 63] : 0; }
-
-static uint8_t mark(int a) { return a == 52 ? 32 : a == 55 ? 8 : a == 62 ? 1 : 0; }
-
-/* Puts the marks on, or takes them off. */
-static void change_marks(uint8_t *word) {
-    for (int a = 0; a < 63; a++)
-        word[a] ^= mark(a);
-}
-
-/* All eleven power sums are 0 once the marks are off. */
-static int is_line(const uint8_t *word) {
-    for (int j = -5; j <= 5; j++) {
-        uint8_t sum = 0;
-        for (int a = 0; a < 63; a++)
-            sum ^= product(word[a] ^ mark(a), power[(j + 63) * (62 - a) % 63]);
-        if (sum != 0)
-            return 0;
-    }
-    return 1;
-}
-
-static int number_of(const uint8_t *line) { return line[50] * 64 + line[51]; }
-
-static int distance(const uint8_t *one, const uint8_t *other) {
-    int n = 0;
-    for (int a = 0; a < 63; a++)
-        n += one[a] != other[a];
-    return n;
-}
-
-/* The first and the last address at which two words differ, 63 where they do not. */
-static int first_changed(const uint8_t *one, const uint8_t *other) {
-    int a = 0;
-    while (a < 63 && one[a] == other[a])
-        a++;
-    return a;
-}
-
-static int last_changed(const uint8_t *one, const uint8_t *other) {
-    for (int a = 62; a >= 0; a--)
-        if (one[a] != other[a])
-            return a;
-    return 63;
-}
-
-static int all_below(const uint8_t *bytes, size_t length, int bound) {
-    for (size_t i = 0; i < length; i++)
-        if (bytes[i] >= bound)
-            return 0;
-    return 1;
-}
-
-/* One step of the division: the remainder of x^11 times one more character. */
-static void divide(uint8_t held[11], uint8_t c) {
-    static const uint8_t generator[11] = {20, 61, 3, 28, 23, 23, 28, 3, 61, 20, 1};
-    uint8_t q = held[0] ^ c;
-    for (int i = 0; i < 11; i++)
-        held[i] = (i < 10 ? held[i + 1] : 0) ^ product(q, generator[i]);
-}
-
-/* Fills in the checks of 52 characters. */
-static void complete(uint8_t *line) {
-    uint8_t held[11] = {0};
-    for (int a = 0; a < 52; a++)
-        divide(held, line[a]);
-    for (int i = 0; i < 11; i++)
-        line[52 + i] = held[i] ^ mark(52 + i);
-}
-
-/* The ring place that address a is taken from at a start. */
-static int place_at(int start, int a) { return start < 63 ? (start + a) % 63 : (start - 63 - a + 63) % 63; }
-
-static void turned(const uint8_t *ring, int start, uint8_t *word) {
-    for (int a = 0; a < 63; a++)
-        word[a] = ring[place_at(start, a)];
-}
-
 /* ---- What the fuzzer's bytes mean. Past their end they are 0. */
 
 static const uint8_t *next;
@@ -265,10 +187,27 @@ static made take_word(void) {
     return m;
 }
 
+/* A kind of text: plain half of the time, a template in a quarter of it. */
+static uint8_t take_kind(uint8_t mask) {
+    uint8_t how = take();
+    return how < 128 ? PLAIN : how < 192 ? TEMPLATE : take() & mask;
+}
+
+/* Gives the line of a made word another kind of text; the same characters are changed in it as before. */
+static void set_kind(made *m, uint8_t kind) {
+    for (int a = 0; a < FILM_CHARACTERS; a++)
+        m->word[a] ^= m->line[a];
+    m->line[0] = kind;
+    complete(m->line);
+    for (int a = 0; a < FILM_CHARACTERS; a++)
+        m->word[a] ^= m->line[a];
+}
+
 /* ---- The calls. Each works out what it can of the answer first, in the order of the refusals. */
 
+/* Two elements half of the time: of any two bytes one pair in sixteen is. */
 static void field_calls(void) {
-    uint8_t u = take(), v = take();
+    uint8_t mask = take() & 1 ? 255 : 63, u = take() & mask, v = take() & mask;
     film_element sum = film_sum(u, v), times = film_product(u, v), over = film_quotient(u, v);
     gave(SUM, sum.answer), gave(PRODUCT, times.answer), gave(QUOTIENT, over.answer);
     if (u > 63 || v > 63) {
@@ -481,8 +420,7 @@ static void ring_calls(void) {
     size_t length = take_length(63), room = take_length(126), line_room = take_length(63);
     uint8_t radius = take() % 7, place = take(), start = take() % 126, seen = take();
     made m = take_word(), ring = m;
-    for (int a = 0; a < 63; a++)
-        ring.word[place_at(start, a)] = m.word[a];
+    recorded(m.word, start, ring.word);
 
     uint8_t *out = lend(&output, NULL, room, place);
     film_list r = film_list_ring(lend(&input, ring.word, length, place >> 2), length, radius, out, room);
@@ -527,6 +465,64 @@ static void ring_calls(void) {
     }
     free(starts);
     free(found);
+}
+
+/* Holds what was written against the text: in a refusal, that it is nothing. */
+static void written_holds(film_panel r, const uint8_t *text) {
+    HOLDS(r.length <= (r.answer == 0 ? FILM_PANEL : 0) && kept_after(&output, r.length));
+    if (r.answer != 0)
+        return;
+    uint8_t characters[FILM_PANEL], escaped[FILM_PANEL], *written = copied(&output);
+    HOLDS(is_harmless(written, r.length));
+    HOLDS(unescape(written, r.length, characters) == AFTER_KIND && memcmp(characters, text + 1, AFTER_KIND) == 0);
+    HOLDS(r.length == escape(text, escaped) && memcmp(written, escaped, r.length) == 0);
+    free(written);
+}
+
+/* Writes a text and checks all of the answer. */
+static film_panel panel_text(const uint8_t *text, size_t length, size_t room, int place) {
+    uint8_t *out = lend(&output, NULL, room, place);
+    film_panel r = film_panel_text(lend(&input, text, length, place >> 2), length, out, room);
+    gave(PANEL_TEXT, r.answer);
+    HOLDS(r.answer == (length != FILM_TEXT ? 1 : room < FILM_PANEL ? 5 : !all_below(text, length, 64) ? 2 : kind_refused(text[0])));
+    written_holds(r, text);
+    return r;
+}
+
+/* A text of any bytes, of any characters, or of those alone that are written by name: past the fuzzer's bytes one of them over and over, so that the
+ * longest text is met too. */
+static void panel_text_call(void) {
+    size_t length = take_length(FILM_TEXT), room = take_length(FILM_PANEL);
+    uint8_t shape = take() % 3, mask = shape == 0 ? 255 : 63, place = take(), kind = take_kind(mask), one = take();
+    uint8_t *text = malloc(length);
+    for (size_t i = 0; i < length; i++)
+        text[i] = i == 0 ? kind : shape == 1 ? named[(one + take()) % NAMED].byte - FIRST_BYTE : take() & mask;
+    panel_text(text, length, room, place);
+    free(text);
+}
+
+/* The line is read from the ring first, and its text is written: once the lengths are right, the panel's ring has to give the same. */
+static void panel_ring_call(void) {
+    size_t length = take_length(FILM_CHARACTERS), room = take_length(FILM_PANEL);
+    uint8_t radius = take() % 7, place = take(), start = take() % FILM_STARTS, kind = take_kind(63), line[FILM_CHARACTERS];
+    made m = take_word(), ring = m;
+    if (m.is_made)
+        set_kind(&m, kind);
+    recorded(m.word, start, ring.word);
+
+    uint8_t *out = lend(&output, NULL, sizeof line, place);
+    film_ring read = film_read_ring(lend(&input, ring.word, length, place >> 2), length, radius, out, sizeof line);
+    gave(READ_RING, read.answer);
+    memcpy(line, output.page + output.from, sizeof line);
+    int due = length != FILM_CHARACTERS ? 1 : room < FILM_PANEL ? 5 : read.answer;
+    if (due == 0)
+        due = panel_text(line, FILM_TEXT, room, place).answer;
+
+    out = lend(&output, NULL, room, place);
+    film_panel r = film_panel_ring(lend(&input, ring.word, length, place >> 2), length, radius, out, room);
+    gave(PANEL_RING, r.answer);
+    HOLDS(r.answer == due);
+    written_holds(r, line);
 }
 
 static int ones(unsigned bits) { return __builtin_popcount(bits); }
@@ -597,14 +593,7 @@ static void block_calls(void) {
 int LLVMFuzzerInitialize(int *argc, char ***argv) {
     (void)argc, (void)argv;
     HOLDS(film_version() == FILM_VERSION);
-    uint8_t x = 1;
-    for (int e = 0; e < 63; e++) {
-        power[e] = x;
-        logarithm[x] = e;
-        x = (uint8_t)(x << 1);
-        if (x > 63)
-            x ^= 67;
-    }
+    make_powers();
     prepare(&input, PROT_READ);
     prepare(&second_input, PROT_READ);
     prepare(&output, PROT_READ | PROT_WRITE);
@@ -614,7 +603,7 @@ int LLVMFuzzerInitialize(int *argc, char ***argv) {
 
 int LLVMFuzzerTestOneInput(const uint8_t *data, size_t size) {
     static void (*const calls[])(void) = {field_calls, register_calls, encode_line_call, read_line_calls, scan_calls,
-                                          merged_call, moved_call, ring_calls, block_calls};
+                                          merged_call, moved_call, ring_calls, panel_text_call, panel_ring_call, block_calls};
     next = data;
     left = size;
     calls[take() % (sizeof calls / sizeof calls[0])]();

@@ -1,0 +1,183 @@
+/* The peers in C: libfec behind a small adapter, and plain C for what libfec has nothing of.
+ *
+ * libfec knows neither marks nor numbers nor rings: the adapter takes the marks off and puts them on again, and turns a ring 126 times. Unlike
+ * the library neither it nor the plain C tests lengths or characters. */
+#include "bench.h"
+#include <fec.h>
+#include <string.h>
+
+/* ---- libfec: six bits, x^6 + x + 1, roots from α^58 on, one apart, eleven of them, nothing padded. */
+
+static void *fec;
+
+static void marks(uint8_t *word) {
+    word[52] ^= 32;
+    word[55] ^= 8;
+    word[62] ^= 1;
+}
+
+/* It has no encoder by the character: a whole line stands for both, and so it does for the second program, whose register is not written
+ * for speed. */
+void fec_encode(const uint8_t *input, uint8_t radius, reply *r) {
+    (void)radius;
+    memcpy(r->out, input, 52);
+    encode_rs_char(fec, r->out, r->out + 52);
+    marks(r->out);
+    r->answer = 0, r->distance = 0, r->number = 0, r->length = 63;
+}
+
+/* The number of characters that were mended, or -1, and their addresses where there is room for them. */
+static int fec_mend(uint8_t *word, int *addresses) {
+    marks(word);
+    int mended = decode_rs_char(fec, word, addresses, 0);
+    marks(word);
+    return mended;
+}
+
+void fec_read(const uint8_t *input, uint8_t radius, reply *r) {
+    int addresses[11];
+    memcpy(r->out, input, 63);
+    int mended = fec_mend(r->out, addresses);
+    if (mended < 0 || mended > radius) {
+        r->answer = FILM_NO_LINE, r->distance = 0, r->number = 0, r->length = 0, r->first = 0, r->last = 0;
+        return;
+    }
+    int first = FILM_NOWHERE, last = mended == 0 ? FILM_NOWHERE : 0;
+    for (int i = 0; i < mended; i++) {
+        first = addresses[i] < first ? addresses[i] : first;
+        last = addresses[i] > last ? addresses[i] : last;
+    }
+    r->answer = 0, r->distance = (uint8_t)mended, r->number = (uint16_t)(r->out[50] * 64 + r->out[51]), r->length = 63;
+    r->first = (uint8_t)first, r->last = (uint8_t)last;
+}
+
+/* Both scans are mended, and the nearer is kept. */
+void fec_better(const uint8_t *input, uint8_t radius, reply *r) {
+    uint8_t words[126];
+    memcpy(words, input, 126);
+    int first = fec_mend(words, NULL), second = fec_mend(words + 63, NULL);
+    int is_first = first >= 0 && first <= radius, is_second = second >= 0 && second <= radius;
+    r->number = is_second && (!is_first || second < first) ? 2 : is_first ? 1 : 0;
+    r->answer = r->number == 0 ? FILM_NO_LINE : FILM_DONE, r->distance = 0, r->length = 0;
+}
+
+void fec_list(const uint8_t *input, uint8_t radius, reply *r) {
+    uint8_t ring[126], word[63], back[126];
+    r->answer = 0, r->distance = 0, r->number = 0, r->length = 0;
+    for (int i = 0; i < 126; i++)
+        ring[i] = input[i % 63], back[i] = input[(125 - i) % 63];
+    for (int k = 0; k < 126; k++) {
+        memcpy(word, k < 63 ? ring + k : back + (62 - (k - 63)), 63);
+        int mended = fec_mend(word, NULL);
+        if (mended >= 0 && mended <= radius)
+            r->out[r->length++] = (uint8_t)k;
+    }
+}
+
+/* libfec has no parity blocks. The peer here is plain C: the odd rows, the even columns, and one bit flipped at most. */
+void plain_block(const uint8_t *input, uint8_t radius, reply *r) {
+    (void)radius;
+    uint8_t columns = 255;
+    int odd = 0, row = 0;
+    for (int i = 0; i < 9; i++) {
+        columns ^= input[i];
+        if (__builtin_parity(input[i]))
+            odd++, row = i;
+    }
+    int faults = __builtin_popcount(columns);
+    r->answer = (odd == 0 && faults == 0) || (odd == 1 && faults == 1) ? FILM_DONE : FILM_NO_BLOCK;
+    r->distance = 0, r->number = 0, r->length = 0;
+    if (r->answer == 0) {
+        memcpy(r->out, input, 9);
+        r->out[row] ^= columns;
+        r->distance = (uint8_t)faults, r->length = 9;
+    }
+}
+
+/* Nor has libfec products and quotients. The peer is plain C by tables of logarithms; unlike the library it does not test that an operand is an
+ * element. */
+static uint8_t powers[126], logs[64];
+
+static void make_logs(void) {
+    for (unsigned i = 0, x = 1; i < 126; i++, x = x < 32 ? 2 * x : (2 * x) ^ 0x43)
+        powers[i] = (uint8_t)x, logs[x] = (uint8_t)(i % 63);
+}
+
+void plain_products(const uint8_t *input, uint8_t radius, reply *r) {
+    (void)radius;
+    r->answer = 0, r->distance = 0, r->number = 0, r->length = 62;
+    for (int i = 0; i < 62; i++) {
+        uint8_t u = input[i], v = input[i + 1];
+        r->out[i] = u == 0 || v == 0 ? 0 : powers[logs[u] + logs[v]];
+    }
+}
+
+void plain_quotients(const uint8_t *input, uint8_t radius, reply *r) {
+    (void)radius;
+    r->answer = 0, r->distance = 0, r->number = 0, r->length = 62;
+    for (int i = 0; i < 62; i++) {
+        uint8_t u = input[i], v = input[i + 1];
+        r->distance += v == 0;
+        r->out[i] = u == 0 || v == 0 ? 0 : powers[logs[u] + 63 - logs[v]];
+    }
+}
+
+/* Nor has libfec text for a panel. The peer is plain C, a switch for each character; of what the library tests, it tests the kind alone. */
+enum { FIRST_BYTE = 32 };
+
+static uint8_t *append(uint8_t *end, const char *name) {
+    memcpy(end, name, strlen(name));
+    return end + strlen(name);
+}
+
+static uint8_t *append_character(uint8_t *end, uint8_t v) {
+    uint8_t byte = FIRST_BYTE + v;
+    switch (byte) {
+    case '&':
+        return append(end, "&amp;");
+    case '<':
+        return append(end, "&lt;");
+    case '>':
+        return append(end, "&gt;");
+    case '"':
+        return append(end, "&quot;");
+    case '\'':
+        return append(end, "&#39;");
+    default:
+        *end = byte;
+        return end + 1;
+    }
+}
+
+void plain_panel_text(const uint8_t *input, uint8_t radius, reply *r) {
+    (void)radius;
+    r->answer = input[0] == PLAIN ? FILM_DONE : input[0] == TEMPLATE ? FILM_TEMPLATE : FILM_UNKNOWN_KIND;
+    r->distance = 0, r->number = 0, r->length = 0;
+    if (r->answer == FILM_DONE) {
+        uint8_t *end = r->out;
+        for (int i = 1; i < FILM_TEXT; i++)
+            end = append_character(end, input[i]);
+        r->length = (uint16_t)(end - r->out);
+    }
+}
+
+/* libfec lists the ring and reads the one start, and the text is written by the plain C. */
+void fec_panel_ring(const uint8_t *input, uint8_t radius, reply *r) {
+    reply list, line;
+    uint8_t word[FILM_CHARACTERS];
+    fec_list(input, radius, &list);
+    if (list.length != 1) {
+        r->answer = list.length == 0 ? FILM_NO_LINE : FILM_MANY_STARTS, r->distance = 0, r->number = 0, r->length = 0;
+        return;
+    }
+    for (int a = 0; a < FILM_CHARACTERS; a++)
+        word[a] = input[place_at(list.out[0], a)];
+    fec_read(word, radius, &line);
+    plain_panel_text(line.out, radius, r);
+}
+
+int prepare_peers(void) {
+    fec = init_rs_char(6, 0x43, 58, 1, 11, 0);
+    make_logs();
+    return fec != NULL;
+}

@@ -1,4 +1,4 @@
-"""The proved film reader: lines, rings and parity blocks, and the field and the register below them.
+"""The proved film reader: lines, rings, text for a panel and parity blocks, and the field and the register below them.
 
 Every function takes whatever bytes and numbers it is handed. It gives back what it found, or raises Refused, which says by number why not.
 A character is a byte from 0 to 63, and a line is 63 of them.

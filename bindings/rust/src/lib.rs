@@ -1,4 +1,4 @@
-//! The proved film reader: lines, rings and parity blocks, and the field and the register below them.
+//! The proved film reader: lines, rings, text for a panel and parity blocks, and the field and the register below them.
 //!
 //! Every function takes whatever slices and numbers it is handed. It answers what it found, or the [`Refusal`] that says by number why not;
 //! then the output is as it was. A character is a byte from 0 to 63, and a line is 63 of them.

@@ -236,10 +236,7 @@ pub extern "C" fn film_list_ring(ring: &[u8], radius: u8, out: &mut [u8]) -> Fil
 {
     let given = ring::list_ring(ring, radius, out);
     match given {
-        RingListing::Listed { count } => FilmList {
-            answer: 0,
-            count: count,
-        },
+        RingListing::Listed { count } => FilmList { answer: 0, count },
         RingListing::Refused(why) => FilmList {
             answer: refusal::number(why),
             count: 0,
@@ -284,10 +281,7 @@ fn panel_shown(given: PanelText) -> FilmPanel
     ensures { λ r. ⌜ panelNumbers r ≡ Panel.panelNumbers given ⌝ }
 {
     match given {
-        PanelText::Written { length } => FilmPanel {
-            answer: 0,
-            length: length,
-        },
+        PanelText::Written { length } => FilmPanel { answer: 0, length },
         PanelText::Refused(why) => FilmPanel {
             answer: refusal::number(why),
             length: 0,

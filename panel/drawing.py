@@ -3,7 +3,7 @@
 import math
 
 PLACES = 63
-RING = 150
+RING = 160
 FORWARD, BACKWARD = RING + 12, RING - 12
 HALF = RING + 44
 
@@ -22,12 +22,12 @@ def shapes():
     """What every drawing of a page uses, once: the ring and the two arrows, as they stand at place 0."""
     dots = "".join(f'<circle cx="{x:.1f}" cy="{y:.1f}" r="2"/>' for x, y in (point(place, RING) for place in range(PLACES)))
     return (f'<svg class="shapes" aria-hidden="true"><defs><g id="ring"><circle class="way" r="{RING}"/>{dots}</g>'
-            f'<path id="forward" d="M 6 {-FORWARD} l -11 -6 v 12 Z"/><path id="backward" d="M -6 {-BACKWARD} l 11 -6 v 12 Z"/></defs></svg>')
+            f'<path id="forward" d="M 8 {-FORWARD} l -15 -5 v 10 Z"/><path id="backward" d="M -8 {-BACKWARD} l 15 -5 v 10 Z"/></defs></svg>')
 
 
 def arrow(start):
     place, is_forward = start % PLACES, start < PLACES
-    x, y = point(place, FORWARD + 18 if is_forward else BACKWARD - 20)
+    x, y = point(place, FORWARD + 18 if is_forward else BACKWARD - 18)
     way = "forward" if is_forward else "backward"
     return f'<g class="{way}"><use href="#{way}" {turned(place)}/><text x="{x:.1f}" y="{y + 3:.1f}">{start:d}</text></g>'
 

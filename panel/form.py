@@ -10,11 +10,11 @@ _NAME = re.compile(rb'content-disposition: *form-data; *name="([a-z]{1,20})"', r
 
 
 class Unfit(Exception):
-    """A request that is not met: its status, and why, in words of ours."""
+    """A request that is not met: its status, and why, in words of ours; where another method is wanted, `allow` names it."""
 
-    def __init__(self, status, words):
+    def __init__(self, status, words, allow=""):
         super().__init__(words)
-        self.status, self.words = status, words
+        self.status, self.words, self.allow = status, words, allow
 
 
 def boundary_of(content_type):

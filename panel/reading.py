@@ -2,7 +2,7 @@
 
 import pathlib
 import sys
-from typing import List, NamedTuple
+from typing import NamedTuple, Sequence
 
 sys.path.insert(0, str(pathlib.Path(__file__).resolve().parents[1] / "bindings" / "python"))
 import film
@@ -22,7 +22,7 @@ class Row(NamedTuple):
     number: int = 0
     distance: int = 0
     start: int = 0
-    starts: List[int] = []
+    starts: Sequence[int] = ()
 
 
 def line_row(item, word, radius):
@@ -38,7 +38,7 @@ def ring_row(item, ring, radius):
         shown, read = film.panel_ring(ring, radius), film.read_ring(ring, radius)
         return Row("Ring", item, shown=shown, number=read.number, distance=read.distance, start=read.start)
     except film.Refused as refused:
-        return Row("Ring", item, refused.number, starts=film.list_ring(ring, radius) if refused.number == MANY_STARTS else [])
+        return Row("Ring", item, refused.number, starts=film.list_ring(ring, radius) if refused.number == MANY_STARTS else ())
 
 
 def rows(tray, radius):

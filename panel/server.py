@@ -27,10 +27,11 @@ PORT, LOOPBACK = 8063, "127.0.0.1"
 # seconds for a request to come, and again for its answer to go; how many are served at once; how much of a refused one is still taken in
 SECONDS, AT_ONCE, DRAINED = 10, 16, 1 << 20
 
-STYLE = (HERE / "panel.css").read_bytes()
 SAMPLES = {name: tray_file.tray_of((HERE.parent / "samples" / f"{name}.tray").read_bytes()) for name in page.SAMPLES}
 METHODS = ("GET", "HEAD", "POST")
 HTML = "text/html; charset=utf-8"
+# the pages that are always the same
+FIXED = {"/": (HTML, page.home().encode("ascii")), "/panel.css": ("text/css; charset=utf-8", (HERE / "panel.css").read_bytes())}
 TOO_LONG = f"A tray has at most {tray_file.LONGEST:,} bytes."
 
 HEADERS = {
@@ -119,18 +120,18 @@ class Handler(http.server.BaseHTTPRequestHandler):
     # ---- what may be asked
 
     def get(self):
+        if self.path in FIXED:
+            return FIXED[self.path]
         path, _, words = self.path.partition("?")
-        if self.path == "/":
-            return HTML, page.home().encode("ascii")
-        if self.path == "/panel.css":
-            return "text/css; charset=utf-8", STYLE
         if path == "/sample":
             return HTML, sampled(words)
         if path == "/tray":
-            raise Unfit(405, "A tray is sent by POST.")
+            raise Unfit(405, "A tray is sent by POST.", "POST")
         raise Unfit(404, "There is no such page.")
 
     def post(self):
+        if self.path in FIXED:
+            raise Unfit(405, "This page is asked for by GET.", "GET, HEAD")
         if self.path != "/tray":
             raise Unfit(404, "A tray is sent to /tray.")
         origin = self.headers.get("Origin")
@@ -168,7 +169,7 @@ class Handler(http.server.BaseHTTPRequestHandler):
                 raise Unfit(421, "The panel is asked for by its address, or as localhost.")
             kind, content = made()
         except Unfit as unfit:
-            self.refuse(unfit.status, unfit.words)
+            self.refuse(unfit.status, unfit.words, unfit.allow)
         except Exception:  # a fault of ours: it is told, and nothing of it is shown
             traceback.print_exc()
             self.refuse(500, "The panel has failed at this. Nothing was shown or kept.")
@@ -187,19 +188,20 @@ class Handler(http.server.BaseHTTPRequestHandler):
     def send_error(self, code, message=None, explain=None):
         """What http.server refuses by itself."""
         status = REFUSED_AS.get(code, code)
-        self.refuse(status, REFUSED.get(status, REFUSED[400]))
+        self.refuse(status, REFUSED.get(status, REFUSED[400]), ", ".join(METHODS) if status == 405 else "")
 
-    def refuse(self, status, words):
-        self.answer(status, HTML, page.unfit(status, words).encode("ascii"))
+    def refuse(self, status, words, allow=""):
+        self.answer(status, HTML, page.unfit(status, words).encode("ascii"), allow)
         self.drain()
 
-    def answer(self, status, kind, content):
+    def answer(self, status, kind, content, allow=""):
         self.request_version = "HTTP/1.0"  # or http.server would leave the head out for one that names no version
         self.close_connection = True
         self.connection.settimeout(SECONDS)
         self.send_response(status)
-        for name, value in {**HEADERS, **({"Allow": ", ".join(METHODS)} if status == 405 else {}), "Content-Type": kind, "Content-Length": len(content)}.items():
-            self.send_header(name, str(value))
+        for name, value in {**HEADERS, "Content-Type": kind, "Content-Length": str(len(content)), "Allow": allow}.items():
+            if value:
+                self.send_header(name, value)
         self.end_headers()
         if self.command != "HEAD":
             self.wfile.write(content)
@@ -254,7 +256,10 @@ class Server(http.server.ThreadingHTTPServer):
 
 
 def main(port=PORT, address=LOOPBACK):
-    server = Server(address, int(port))
+    try:
+        server = Server(address, int(port))
+    except (OSError, OverflowError) as why:
+        sys.exit(f"The panel cannot be at port {port} of {address}: {why}")
     print(f"The panel is at {server.url()} until it is ended by Ctrl-C.", flush=True)
     try:
         server.serve_forever()

@@ -8,7 +8,8 @@ ROOT = pathlib.Path(__file__).resolve().parents[1]
 FOLDERS = [".ci", "bench", "bindings", "crates", "docs", "fuzz", "include", "samples", "second", "tools"]
 
 TICKED = re.compile(r"`([^`]+)`")
-PATH = re.compile(rf"(?<![\w./·-])((?:{'|'.join(map(re.escape, FOLDERS))})/[\w./*-]*)")
+# a crate has the name of the folder panel/ too, but the files of its definitions begin with capitals
+PATH = re.compile(rf"(?<![\w./·-])((?:{'|'.join(map(re.escape, FOLDERS))}|panel(?!/[A-Z]))/[\w./*-]*)")
 LINK = re.compile(r"\]\(([^)\s]+)\)")
 EDITS = re.compile(r"\bedits? ((?:`\w+`(?:, and |, | and )?)+)")
 

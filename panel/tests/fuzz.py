@@ -30,6 +30,8 @@ from tray import show
 MOST = 3000
 # every status that is promised
 STATUSES = {200, 400, 403, 404, 405, 408, 411, 413, 414, 415, 421, 422, 431}
+# the head of every answer, and the longest tray, as they are before a fault is put in
+HEADERS, LONGEST = dict(server.HEADERS), tray_file.LONGEST
 # every tag that the pages have
 TAGS = {"html", "head", "meta", "title", "link", "body", "header", "h1", "h2", "a", "main", "form", "label", "select", "option", "input", "button", "p", "table", "thead",
         "tbody", "tr", "th", "td", "samp", "strong", "figure", "figcaption", "br", "svg", "defs", "g", "circle", "path", "use", "text"}
@@ -78,7 +80,7 @@ def tray(source):
     if change == 1:
         return file + source.randbytes(source.choice((1, 63)))
     if change == 2 and source.random() < 0.2:
-        return file + bytes(tray_file.LONGEST + source.choice((-1, 0, 1, form.FRAME)) - len(file))
+        return file + bytes(LONGEST + source.choice((-1, 0, 1, form.FRAME)) - len(file))
     return file
 
 
@@ -111,7 +113,7 @@ def changed(source, data, other):
 def harmless(answered):
     """What holds of every answer."""
     hold(answered.status in STATUSES, f"status {answered.status}")
-    hold({name: answered.headers.get(name) for name in server.HEADERS} == server.HEADERS, "the head is not whole")
+    hold({name: answered.headers.get(name) for name in HEADERS} == HEADERS, "the head is not whole")
     hold(answered.headers["Content-Length"] == str(len(answered.body)) or not answered.body, "another length than the head says")
     if not answered.body or answered.headers["Content-Type"] != server.HTML:
         return None
@@ -124,7 +126,7 @@ def harmless(answered):
 def as_promised(answered, file, radius):
     """What holds of the answer to a form that was sent as it should be: the tool for tray files, which shares no code, says whether it is a tray."""
     read = harmless(answered)
-    if len(file) > tray_file.LONGEST:
+    if len(file) > LONGEST:
         hold(answered.status == 413, f"a file of {len(file)} bytes has status {answered.status}")
     elif "# The file is whole, and nothing is left over." not in show(file):
         hold(answered.status == 422, f"what is no tray has status {answered.status}")
@@ -181,9 +183,10 @@ def first_start(item, ring, radius):
     return reading.line_row(item, at_start, radius)._replace(kind="Ring")
 
 
-def echoed(self, status, words):
-    REFUSE(self, status, words)
-    self.wfile.write(getattr(self, "path", "").encode("latin-1"))
+def echoed(self, status, words, allow=""):
+    said = page.unfit(status, words).replace("</main>", f"{getattr(self, 'path', '')}</main>")
+    self.answer(status, server.HTML, said.encode("ascii", "replace"), allow)
+    self.drain()
 
 
 def whole_or_more(file):
@@ -191,21 +194,23 @@ def whole_or_more(file):
     return tray_file.Tray(walk.count(""), walk.words("line"), walk.words("ring"), 0)
 
 
-def without_version(self, status, kind, content):
-    version = self.request_version
-    ANSWER(self, status, kind, content) if version != "HTTP/0.9" else self.wfile.write(content)
+def without_version(self, status, kind, content, allow=""):
+    if self.request_version == "HTTP/0.9":
+        self.wfile.write(content)
+    else:
+        ANSWER(self, status, kind, content, allow)
 
 
-CELLS, RING_ROW, REFUSE, ANSWER = page.cells, reading.ring_row, server.Handler.refuse, server.Handler.answer
+CELLS, RING_ROW, ANSWER = page.cells, reading.ring_row, server.Handler.answer
 FAULTS = [
     ("a note as it is in the page", page, "cells", as_it_is),
     ("the first start that fits", reading, "ring_row", first_start),
     ("a refusal that repeats the address", server.Handler, "refuse", echoed),
     ("bytes left over taken for none", tray_file, "tray_of", whole_or_more),
-    ("a longer tray taken", tray_file, "LONGEST", tray_file.LONGEST + 1),
+    ("a longer tray taken", tray_file, "LONGEST", LONGEST + 1),
     ("an answer without its head", server.Handler, "answer", without_version),
-    ("a refusal without the policy", server, "HEADERS", collections.defaultdict(str, {"X-Frame-Options": "DENY"})),
-    ("a name that is not ASCII", form, "query", lambda words: dict([words.encode("ascii").decode("utf-8").split("=")])),
+    ("a refusal without the policy", server, "HEADERS", {name: value for name, value in HEADERS.items() if name != "Content-Security-Policy"}),
+    ("an address that the panel fails at", form, "query", lambda words: dict(pair.split("=") for pair in words.split("&"))),
 ]
 
 

@@ -4,11 +4,9 @@ import contextlib
 import html
 import io
 import os
-import pathlib
 import socket
 import tempfile
 import threading
-import time
 import unittest
 
 import places
@@ -186,11 +184,14 @@ class Refused(Quiet):
         for path in ("/sample", "/sample?name=full", "/sample?name=full&radius=6", "/sample?name=full&radius=", "/sample?name=full&radius=1&radius=1",
                      "/sample?name=full&radius=1&more=1", "/sample?name&radius", "/sample?%FF=1", "/sample?name=full&radius=%D9%A1"):
             self.assertEqual(self.status(request(path=path)), 400, path)
-        self.assertEqual(self.status(request(path="/tray")), 405)
-        self.assertEqual(self.status(request("POST", "/", b"x", TYPE)), 404)
-        for method in ("PUT", "DELETE", "OPTIONS", "TRACE", "get", "<SCRIPT>"):
-            answered = answer(request(method))
-            self.assertEqual((answered.status, answered.headers["Allow"]), (405, "GET, HEAD, POST"))
+        self.assertEqual(self.status(request("POST", "/x", b"x", TYPE)), 404)
+
+    def test_how_it_may_be_asked(self):
+        """By GET or HEAD, and for a tray by POST; a refusal names the methods."""
+        others = {method: ("/", "GET, HEAD, POST") for method in ("PUT", "DELETE", "OPTIONS", "TRACE", "get", "<SCRIPT>")}
+        for method, (path, allow) in {**others, "GET": ("/tray", "POST"), "POST": ("/", "GET, HEAD")}.items():
+            self.assertEqual(self.status(request(method, path)), 405)
+            self.assertEqual(answer(request(method, path)).headers["Allow"], allow)
 
     def test_what_is_no_request(self):
         for data in (b"x\r\n\r\n", b"GET /\r\n\r\n", b"GET / HTTP/x\r\n\r\n", b"GET / HTTP/2.0\r\n\r\n", b"GET / <SCRIPT> HTTP/1.1\r\n\r\n", b"POST /\r\n\r\n",
@@ -310,13 +311,16 @@ class Serving(Quiet):
                 tempfile.tempdir = temporary
             self.assertEqual(self.ask(request()).body, before)
 
-    def test_many_at_once(self):
-        """More than are served at once, all waiting: each is answered in the end."""
-        with contextlib.ExitStack() as stack:
-            idle = [stack.enter_context(socket.create_connection(self.server.server_address)) for _ in range(server.AT_ONCE - 1)]
-            time.sleep(0.1)
-            self.assertEqual([self.ask(request()).status for _ in range(5)], [200] * 5)
-            self.assertEqual(len(idle), server.AT_ONCE - 1)
+    def test_who_sends_nothing(self):
+        """As many as are served at once send nothing: who comes then is answered all the same, once their time is over."""
+        seconds, server.SECONDS = server.SECONDS, 1
+        try:
+            with contextlib.ExitStack() as stack:
+                for _ in range(server.AT_ONCE):
+                    stack.enter_context(socket.create_connection(self.server.server_address))
+                self.assertEqual(self.ask(request()).status, 200)
+        finally:
+            server.SECONDS = seconds
 
 
 if __name__ == "__main__":

@@ -151,7 +151,7 @@ class Tests(unittest.TestCase):
     def test_a_refused_upload_is_told(self):
         """A file that is too long, and one that is no tray: the browser shows the refusal's page, and not that the connection broke."""
         file = self.room / "x.tray"
-        for content, status in ((bytes(1 << 20), "413"), (bytes(tray_file.LONGEST + 1), "413"), (b"<SCRIPT SRC=//X>", "422")):
+        for content, status in ((bytes(1000000), "413"), (bytes(tray_file.LONGEST + 1), "413"), (b"<SCRIPT SRC=//X>", "422")):
             file.write_bytes(content)
             self.browser.load(self.panel + "/")
             self.browser.hand_over(file, "own")

@@ -222,7 +222,7 @@ class Refused(Quiet):
         self.assertEqual(self.status(upload(file_of("notes")).replace(b"Content-Length", b"Content-Length: 1\r\nContent-Length")), 400)
         self.assertEqual(self.status(upload(bytes(tray_file.LONGEST + 1))), 413)
         self.assertEqual(self.status(upload(bytes(tray_file.LONGEST + form.FRAME))), 413)
-        self.assertEqual(self.status(upload(bytes(1 << 20))), 413)
+        self.assertEqual(self.status(upload(bytes(1000000))), 413)
 
     def test_what_is_no_form(self):
         file, own = ("tray", file_of("notes")), ("radius", b"own")
@@ -243,7 +243,7 @@ class Refused(Quiet):
 
     def test_a_request_that_does_not_come(self):
         """A form that is begun and not ended is refused in time."""
-        seconds, server.SECONDS = server.SECONDS, 1
+        seconds, server.SECONDS = server.SECONDS, 2
         try:
             self.assertEqual(self.status(upload(file_of("notes"))[:-1], ends=False), 408)
         finally:
@@ -292,8 +292,8 @@ class Serving(Quiet):
         self.assertEqual(self.ask(request()).status, 200)
 
     def test_a_refusal_is_seen_by_who_still_sends(self):
-        """A megabyte is refused by its length, and the answer still comes."""
-        self.assertEqual(self.ask(upload(bytes(1 << 20))).status, 413)
+        """A million bytes are refused by their count, and the answer still comes."""
+        self.assertEqual(self.ask(upload(bytes(1000000))).status, 413)
 
     def test_nothing_is_kept(self):
         """After trays, good and bad, no file is new, and every page is as it was."""
@@ -313,7 +313,7 @@ class Serving(Quiet):
 
     def test_who_sends_nothing(self):
         """As many as are served at once send nothing: who comes then is answered all the same, once their time is over."""
-        seconds, server.SECONDS = server.SECONDS, 1
+        seconds, server.SECONDS = server.SECONDS, 2
         try:
             with contextlib.ExitStack() as stack:
                 for _ in range(server.AT_ONCE):

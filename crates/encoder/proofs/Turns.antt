@@ -255,7 +255,7 @@ module _ (t : List ℕ) (n : ℕ) (old : List ℕ) where
   unfolding Encodes
   line-written new m l = succeeds (λ fields l. (fields ≡ []) × LineWith t n l) 0 old tests [] new m (refl, l)
 
--- the information of a text and a number, and the checks with its power sums
+-- the information of a text and a number, and the checks with its power sums, are the line with that text and number
 pub the-line : (t : List ℕ) (n : ℕ) (w s r k new : List ℕ) → length t ≡ 50 → Yes (Characters t) → n ≤ 4095 → w ≡ information t n ++ replicate 11 0
     → PowerSums w s → ChecksWith s r → k ≡ checksOf r → new ≡ take 52 w ++ k → LineWith t n new
 unfolding encoded

@@ -6,9 +6,6 @@ use Rattle.report.proofs.Whole.{refused, whole-text}
 use Rattle.report.proofs.report.Statement.{statement}
 use Rattle.report.proofs.report.Tie as tie
 
-returns-2 : tie.Need-returns-2
-returns-2 c = search (whole-text, needs)
-
 pub report-spec : {M : Type 1} → statement M
 report-spec =
     tie.close
@@ -18,4 +15,4 @@ report-spec =
     (λ c κs. search needs)
     (λ c κs. search needs)
     (λ c. search needs)
-    returns-2)
+    (λ c. search (whole-text, needs)))

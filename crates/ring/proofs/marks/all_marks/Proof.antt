@@ -1,14 +1,14 @@
--- `ring::all_marks` meets its contract: the sums at the first start of each direction are computed by Horner's rule, and those at each next one are compared with them turned back.
+-- `ring::marks::all_marks` meets its contract: the sums at the first start of each direction are computed by Horner's rule, and those at each next one are compared with them turned back.
 use mathlib.Core.Path.{refl}
 use Rattle.field.specs.Field.{sum, timesX, shifted, product, power}
 use Rattle.lanes.specs.Lanes.{lane}
 use Rattle.code.specs.Word.{marks, listed, reversed}
 use Rattle.code.specs.Held.{elevenAt, eleven}
 use Rattle.code.proofs.Horner.{horner, horner-sums}
-use Rattle.ring.proofs.Marks.{first-marks, backward-begins}
-use Rattle.ring.proofs.Filtering.{backs, turnedAll, marks-at-all}
-use Rattle.ring.proofs.all_marks.Statement.{statement}
-use Rattle.ring.proofs.all_marks.Tie as tie
+use Rattle.ring.proofs.marks.Marks.{first-marks, backward-begins}
+use Rattle.ring.proofs.marks.Tables.{backs, turnedAll, marks-at-all}
+use Rattle.ring.proofs.marks.all_marks.Statement.{statement}
+use Rattle.ring.proofs.marks.all_marks.Tie as tie
 
 returns : tie.Need-returns
 unfolding backs turnedAll elevenAt eleven lane listed horner marks reversed power product shifted timesX sum

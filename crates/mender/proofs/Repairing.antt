@@ -34,9 +34,8 @@ use Rattle.mender.specs.Found.{lone, OneError, ElementsTo, Clear, Repair
 use Rattle.mender.proofs.OneError.{lone-long, lone-here, lone-other, lone-weight, weight-nothing, sums-nothing}
 use Rattle.mender.proofs.Finding.{true-false, found-none, none-near, one-near, nearest-none, mended}
 
--- ---- whether the first c sums are elements
+-- ---- sums that are no elements are those of no word
 
--- sums that are no elements are those of no word
 pub not-elements : (s : List ℕ) (c e : ℕ) (m : Mended) (b : Bool) → Tells (ElementsTo s c) b → b ≡ false → Nothing m → MendsTo s c e m
 not-elements s c e m b t q n =
     found-none s c e m n (λ w f. t .fails q (λ k l. subst (λ (v : ℕ). v < 64) (sym (f .sums k l)) (powerSum-lt (58 + k) w)))

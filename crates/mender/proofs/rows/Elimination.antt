@@ -12,7 +12,7 @@ use lib.Dec.{ltb, eqb}
 use lib.Bits.{bitXor}
 use lib.ListN.{getD, List·getD-eq-default}
 use lib.Seq.{ext-getD}
-use Rattle.numbers.proofs.Cases.{le-or-lt, same-or-not}
+use Rattle.numbers.proofs.Cases.{le-or-lt}
 use Rattle.field.specs.Field.{sum, product}
 use Rattle.field.specs.Inside.{inverse}
 use Rattle.field.proofs.Laws
@@ -22,7 +22,7 @@ use Rattle.lanes.proofs.Laws.{lane-after, pack-same, lane-pack, pack-more, pack
 use Rattle.mender.specs.Rows.{woven, SumsIn, UnitRows, PivotRow, factor, RowsCleared, RowsHold, RowsFrom, FirstRow, Coefficients}
 use Rattle.mender.specs.Inside.{mixed, at}
 use Rattle.mender.proofs.Fitting.{Least, row-least}
-use Rattle.mender.proofs.rows.Windows.{Units, Stepped, past, mixed-lt, mixed-none, spanned-units, spanned-step, spanned-skip}
+use Rattle.mender.proofs.rows.Windows.{Units, Stepped, past, row-none, column-none, none-divided, mixed-lt, mixed-none, spanned-units, spanned-step, spanned-skip}
 use Rattle.mender.proofs.rows.Weaving.{pack-none, pack-unit, pack-five, lane-none, woven-window, woven-coef, woven-lt, woven-none, woven-added, matrix, matrix-long, matrix-wide, matrix-at}
 
 -- ---- the start: the rows of the unit vectors
@@ -42,16 +42,11 @@ unit-other : (n i k : ℕ) → (i ≡ k → ⊥) → unit n i k ≡ 0
 unfolding unit
 unit-other n i k d = simp (ne-eqb i k d)
 
-unit-past : (n i k : ℕ) → n ≤ i → unit n i k ≡ 0
-unit-past n i k h = ⊎-elim (λ (e : i ≡ k). subst (λ (k : ℕ). unit n i k ≡ 0) e (unit-none n i h)) (λ (d : i ≡ k → ⊥). unit-other n i k d) (same-or-not i k)
-
-unit-beside : (n i k : ℕ) → n ≤ k → unit n i k ≡ 0
-unit-beside n i k h =
-    ⊎-elim (λ (e : i ≡ k). subst (λ (i : ℕ). unit n i k ≡ 0) (sym e) (unit-none n k h)) (λ (d : i ≡ k → ⊥). unit-other n i k d) (same-or-not i k)
-
 module _ (n : ℕ) (h : n ≤ 6) where
   unit-at : (i k : ℕ) → at (matrix (unit n)) i k ≡ unit n i k
-  unit-at = matrix-at (unit n) (λ i k l. unit-past n i k (omega arith)) (λ i k l. unit-beside n i k (omega arith))
+  unit-at =
+      matrix-at (unit n) (λ i k l. row-none (unit n) n (unit-none n) (unit-other n) i k (omega arith))
+      (λ i k l. column-none (unit n) n (unit-none n) (unit-other n) i k (omega arith))
 
   unit-units : Units n (matrix (unit n))
   unit-units =
@@ -90,7 +85,7 @@ module _ (q e : ℕ) (x : List ℕ) (h : e ≤ 5) (u : UnitRows q (suc e) x) (s 
       ⊎-elim
       (λ (l : suc e ≤ i).
       u .none i l
-      ∙ sym (pack-none 11 (woven s (at start i)) (λ t c. woven-none s (at start i) (λ k. row-none i k l) t)))
+      ∙ sym (pack-none 11 (woven s (at start i)) (λ t c. woven-none s (at start i) (λ k. row-none (at start) (suc e) (start-units .none) (start-units .other) i k l) t)))
       (λ (l : i < suc e).
       u .row i l
       ∙ ap₂ (λ (a c : ℕ). a + c * 64 ^ 5)
@@ -102,9 +97,6 @@ module _ (q e : ℕ) (x : List ℕ) (h : e ≤ 5) (u : UnitRows q (suc e) x) (s 
       ∙ sym (pack-five (woven s (at start i))))
       (le-or-lt (suc e) i)
     where
-      row-none : (i k : ℕ) → suc e ≤ i → at start i k ≡ 0
-      row-none i k l = ⊎-elim (λ (r : i ≡ k). subst (λ (k : ℕ). at start i k ≡ 0) r (start-units .none i l)) (λ (d : i ≡ k → ⊥). start-units .other i k d) (same-or-not i k)
-
       turned : (a c : ℕ) → a + c ≡ c + a
       turned a c = omega arith
 
@@ -162,7 +154,7 @@ module _ (s : List ℕ) (e n : ℕ) (x : List ℕ) (a : RowsHold s e n x) where
 
     f-none : (i : ℕ) → mixed (at m i) s n ≡ 0 → f i ≡ 0
     unfolding f
-    f-none i z = ap (λ (t : ℕ). product t (inverse (mixed (at m p) s n))) z ∙ Laws.zero-product (inverse (mixed (at m p) s n))
+    f-none i = none-divided (mixed (at m i) s n) (mixed (at m p) s n)
 
     entry-below : (i k : ℕ) → 6 ≤ i → entry i k ≡ 0
     unfolding entry m

@@ -42,6 +42,7 @@ pub pack-five : (f : ℕ → ℕ) → pack 11 f ≡ pack 6 (λ k. f (5 + k)) * 6
 unfolding pack
 pack-five f = omega arith
 
+-- the lanes of 0
 pub lane-none : (t : ℕ) → lane 0 t ≡ 0
 unfolding lane
 lane-none t = ap (λ (n : ℕ). n % 64) (zero-div (64 ^ t))

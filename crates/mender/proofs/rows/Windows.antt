@@ -33,6 +33,14 @@ pub record Stepped (s : List ℕ) (n p : ℕ) (m r : List (List ℕ)) : Type 0 w
 pub past : (m : List (List ℕ)) (i k : ℕ) → length m ≡ 6 → 6 ≤ i → at m i k ≡ 0
 past m i k e h = ap (λ (l : List ℕ). getD l k 0) (List·getD-eq-default m [] (omega arith))
 
+-- entries that are 0 off the diagonal, and on it from n on, are 0 in each row and each column from n on
+module _ (f : ℕ → ℕ → ℕ) (n : ℕ) (none : (i : ℕ) → n ≤ i → f i i ≡ 0) (other : (i k : ℕ) → (i ≡ k → ⊥) → f i k ≡ 0) where
+  pub row-none : (i k : ℕ) → n ≤ i → f i k ≡ 0
+  row-none i k h = ⊎-elim (λ (e : i ≡ k). subst (λ (j : ℕ). f i j ≡ 0) e (none i h)) (λ (d : i ≡ k → ⊥). other i k d) (same-or-not i k)
+
+  pub column-none : (i k : ℕ) → n ≤ k → f i k ≡ 0
+  column-none i k h = ⊎-elim (λ (e : i ≡ k). subst (λ (j : ℕ). f j k ≡ 0) (sym e) (none k h)) (λ (d : i ≡ k → ⊥). other i k d) (same-or-not i k)
+
 -- ---- combining is linear
 
 pub mixed-lt : (q : ℕ → ℕ) (s : List ℕ) (j : ℕ) → mixed q s j < 64
@@ -81,6 +89,10 @@ made q m s j h =
 
 -- ---- one window
 
+-- 0 divided is 0
+pub none-divided : (u d : ℕ) → u ≡ 0 → product u (inverse d) ≡ 0
+none-divided u d h = ap (λ (t : ℕ). product t (inverse d)) h ∙ Laws.zero-product (inverse d)
+
 -- divided by d and multiplied again
 back : (u d : ℕ) → u < 64 → 0 < d → d < 64 → product (product u (inverse d)) d ≡ u
 back u d h p l =
@@ -92,7 +104,7 @@ module _ (s : List ℕ) (e n p : ℕ) (m r : List (List ℕ)) (a : Spanned s e n
 
   f-zero : (i : ℕ) → mixed (at m i) s n ≡ 0 → f i ≡ 0
   unfolding f
-  f-zero i h = ap (λ (t : ℕ). product t (inverse (mixed (at m p) s n))) h ∙ Laws.zero-product (inverse (mixed (at m p) s n))
+  f-zero i = none-divided (mixed (at m i) s n) (mixed (at m p) s n)
 
   row-is : (i k : ℕ) → at r i k ≡ sum (at m i k) (product (f i) (at m p k))
   unfolding f
@@ -228,8 +240,7 @@ module _ (s : List ℕ) (e : ℕ) (m : List (List ℕ)) (h : e ≤ 5) (u : Units
       (λ (d : i ≡ k → ⊥). subst (λ (t : ℕ). t < 64) (sym (u .other i k d)) (omega arith)) (same-or-not i k)
 
   units-short : (i k : ℕ) → e < k → at m i k ≡ 0
-  units-short i k l =
-      ⊎-elim (λ (q : i ≡ k). subst (λ (i : ℕ). at m i k ≡ 0) (sym q) (u .none k l)) (λ (d : i ≡ k → ⊥). u .other i k d) (same-or-not i k)
+  units-short = column-none (at m) (suc e) (u .none) (u .other)
 
   units-keeps : (q : ℕ → ℕ) → Degree e q → (k : ℕ) → total 6 (λ i. product (q i) (at m i k)) ≡ q k
   units-keeps q g k =
@@ -251,9 +262,7 @@ module _ (s : List ℕ) (e : ℕ) (m : List (List ℕ)) (h : e ≤ 5) (u : Units
         keeps = λ q g z k. units-keeps q g k;
         low = λ i k l. u .other i k (λ q. omega arith);
         short = units-short;
-        own = λ i. ⊎-elim (λ (l : suc e ≤ i). inl (λ k. own-none i k l)) (λ (l : i < suc e). inr (u .one i l)) (le-or-lt (suc e) i);
+        own = λ i.
+            ⊎-elim (λ (l : suc e ≤ i). inl (λ k. row-none (at m) (suc e) (u .none) (u .other) i k l)) (λ (l : i < suc e). inr (u .one i l)) (le-or-lt (suc e) i);
         small = units-small;
       }
-    where
-      own-none : (i k : ℕ) → suc e ≤ i → at m i k ≡ 0
-      own-none i k l = ⊎-elim (λ (q : i ≡ k). subst (λ (k : ℕ). at m i k ≡ 0) q (u .none i l)) (λ (d : i ≡ k → ⊥). u .other i k d) (same-or-not i k)

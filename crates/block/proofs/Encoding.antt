@@ -1,7 +1,5 @@
 -- There is one proper block with given data rows, and no other; and each way in which encoding ends.
 use mathlib.Core.Path.{_≡_, refl, sym, ap, ap₂, _∙_}
-use mathlib.Core.Logic.{inl, inr}
-use mathlib.Core.Bool.{Bool, true, false, not}
 use mathlib.Core.List.{List, [], _∷_, _++_, map}
 use Prim.Native.Nat.{ℕ, zero, suc, _+_, _-_, _*_, _%_, _<_, _≤_}
 use native.Mathlib.Nat.{not-suc-le-zero, le-of-suc-le-suc}
@@ -11,13 +9,13 @@ use lib.ListN.{length, getD, take, length-append, length-map, drop-of-length-le}
 use lib.Seq.{split-at, take-at}
 use lib.Bits.{bitXor, xor-comm, xor-lt, xor-mod, xor-zero-r}
 use lib.Count.{onesIn}
-use borrow.Author.Tests.{not-true, not-false}
 use Rattle.numbers.proofs.Cases.{bit-cases}
 use Rattle.numbers.proofs.Range.{each, each-at}
 use Rattle.numbers.proofs.Xor.{xor-assoc, xor-undo}
-use Rattle.refusal.specs.Promise.{Tells}
+use Rattle.refusal.specs.Promise.{Test}
+use Rattle.refusal.proofs.Ladder.{Met, FailsAt, answerAt, refuses, succeeds}
 use Rattle.block.specs.Block.{Bytes, dataOf, ones, Sevens, Holds}
-use Rattle.block.specs.Promises.{Encodes}
+use Rattle.block.specs.Promises.{encodingTests, EncodedAs, Encodes}
 use Rattle.block.specs.Inside.{oddRows, summed, wanted, checked, withChecks, encoded}
 use Rattle.block.proofs.Bits.{ones-parity}
 use Rattle.block.proofs.Columns.{summed-lt, wanted-lt, proper-summed, is-proper, wrong-parity}
@@ -165,26 +163,14 @@ module _ (given block : List ℕ) (h : Holds given block) where
 
 -- ---- each way in which encoding ends
 
-pub few-data : (given old : List ℕ) → length given < 1 → Encodes given old (8 ∷ []) old
-unfolding Encodes
-few-data given old h = (inr (λ t. omega arith, refl), (refl, refl))
+module _ (given old : List ℕ) where
+  abbrev tests : List Test
+  tests = encodingTests given (length old)
 
-pub many-data : (given old : List ℕ) → 63 < length given → Encodes given old (8 ∷ []) old
-unfolding Encodes
-many-data given old h = (inr (λ t. omega arith, refl), (refl, refl))
-
-module _ (given old : List ℕ) (least : 1 ≤ length given) (most : length given ≤ 63) where
-  pub other-room : (length old ≡ length given + 1 → ⊥) → Encodes given old (5 ∷ []) old
+  pub refused : (n : ℕ) → FailsAt n tests → Encodes given old (answerAt n tests ∷ []) old
   unfolding Encodes
-  other-room h = (inl ((least, most), inr (h, refl)), (refl, refl))
+  refused = refuses (EncodedAs given) 0 old tests
 
-  module _ (room : length old ≡ length given + 1) (b : Bool) (tells : Tells (Sevens given) b) where
-    pub over : not b ≡ true → Encodes given old (2 ∷ []) old
-    unfolding Encodes
-    over h = (inl ((least, most), inl (room, inr (tells .fails (not-true b h), refl))), (refl, refl))
-
-    pub written : not b ≡ false → (new : List ℕ) → new ≡ encoded given → Encodes given old (0 ∷ []) new
-    unfolding Encodes
-    written h new e =
-        let s : Sevens given = tells .holds (not-false b h) in
-        rw e (inl ((least, most), inl (room, inl (s, refl))), (encoded-holds given least most s, refl))
+  pub written : Met tests → (new : List ℕ) → new ≡ encoded given → Encodes given old (0 ∷ []) new
+  unfolding Encodes
+  written m new e = rw e (succeeds (EncodedAs given) 0 old tests _ _ m (encoded-holds given (m .0 .is .0) (m .0 .is .1) (m .1 .1 .0 .is), refl))

@@ -1,6 +1,6 @@
 -- Each way in which reading a block ends.
-use mathlib.Core.Path.{_≡_, refl, sym, ap, ap₂, _∙_}
-use mathlib.Core.Logic.{inl, inr, ⊎-elim}
+use mathlib.Core.Path.{_≡_, sym, ap, ap₂, _∙_}
+use mathlib.Core.Logic.{⊎-elim}
 use mathlib.Core.List.{List, [], _∷_, _++_, append-nil}
 use Prim.Native.Nat.{ℕ, _+_, _%_, _<_, _≤_}
 use native.Mathlib.Nat.{eq-or-lt-of-le}
@@ -9,30 +9,35 @@ use lib.ListN.{length, getD, set, take, drop, length-set}
 use lib.Seq.{take-length, drop-length}
 use lib.Bits.{bitXor, xor-comm, xor-lt}
 use Rattle.numbers.proofs.Xor.{xor-undo}
+use Rattle.refusal.specs.Promise.{Test}
+use Rattle.refusal.proofs.Ladder.{No, FailsAt, answerAt, _then_, refuses, succeeds, denied}
 use Rattle.block.specs.declared.Faults.{Faults}
 use Rattle.block.specs.Block.{ones, distance, Near, Mendable}
-use Rattle.block.specs.Promises.{Reads}
+use Rattle.block.specs.Promises.{readingTests, ReadAs, Reads}
 use Rattle.block.specs.Inside.{oddRows, summed, wanted, Counted}
 use Rattle.block.proofs.Bits.{ones-parity}
 use Rattle.block.proofs.Columns.{summed-lt, wanted-lt, is-proper, wrong-parity, odd-set, summed-set, distance-set, bytes-set}
 use Rattle.block.proofs.Apart.{near-rows, wrong-columns}
 
-pub few-rows : (rows old : List ℕ) → length rows < 2 → Reads rows old (8 ∷ 0 ∷ []) old
-unfolding Reads
-few-rows rows old h = (inr (λ t. omega arith, refl), (refl, refl))
+module _ (rows old : List ℕ) where
+  abbrev tests : List Test
+  tests = readingTests rows (length old)
 
-pub many-rows : (rows old : List ℕ) → 64 < length rows → Reads rows old (8 ∷ 0 ∷ []) old
-unfolding Reads
-many-rows rows old h = (inr (λ t. omega arith, refl), (refl, refl))
+  pub refused : (n : ℕ) → FailsAt n tests → Reads rows old (answerAt n tests ∷ 0 ∷ []) old
+  unfolding Reads
+  refused = refuses (ReadAs rows) 1 old tests
 
--- where a proper block lies within one bit it is what is read
-pub near-reads : (rows old block : List ℕ) (d : ℕ) → length old ≡ length rows → Near rows block → d ≡ distance rows block → Reads rows old (0 ∷ d ∷ []) block
-unfolding Reads
-near-reads rows old block d room n e =
-    let l : length block ≡ length rows = n .long in
-    let least : 2 ≤ length block = n .proper .block .least in
-    let most : length block ≤ 64 = n .proper .block .most in
-    (inl ((omega arith, omega arith), inl (room, inl ((block, n), refl))), (n, ap (λ (k : ℕ). k ∷ []) e))
+  -- where a proper block lies within one bit it is what is read
+  pub near-reads : (block : List ℕ) (d : ℕ) → length old ≡ length rows → Near rows block → d ≡ distance rows block → Reads rows old (0 ∷ d ∷ []) block
+  unfolding Reads
+  near-reads block d room n e =
+      let l : length block ≡ length rows = n .long in
+      let least : 2 ≤ length block = n .proper .block .least in
+      let most : length block ≤ 64 = n .proper .block .most in
+      succeeds (ReadAs rows) 1 old tests _ _ ((omega arith, omega arith) then room then (block, n) then tt) (n, ap (λ (k : ℕ). k ∷ []) e)
+
+  pub none-near : 2 ≤ length rows → length rows ≤ 64 → length old ≡ length rows → (Mendable rows → ⊥) → Reads rows old (9 ∷ 0 ∷ []) old
+  none-near least most room none = refused 2 ((least, most) then room then denied none)
 
 -- a copy over an output of the same length leaves nothing of it
 whole : (rows old : List ℕ) → length old ≡ length rows → take (length rows) rows ++ drop (length rows) old ≡ rows
@@ -44,32 +49,24 @@ pub row-inside : (rows old copied : List ℕ) (f : Faults) → 2 ≤ length rows
     → copied ≡ take (length rows) rows ++ drop (length rows) old → f .row < length copied
 row-inside rows old copied f least room counted e = rw (e ∙ whole rows old room) (counted .inside (omega arith))
 
-module _ (rows old : List ℕ) (least : 2 ≤ length rows) (most : length rows ≤ 64) where
-  pub other-room : (length old ≡ length rows → ⊥) → Reads rows old (5 ∷ 0 ∷ []) old
-  unfolding Reads
-  other-room h = (inl ((least, most), inr (h, refl)), (refl, refl))
-
-  pub none-near : length old ≡ length rows → (Mendable rows → ⊥) → Reads rows old (9 ∷ 0 ∷ []) old
-  unfolding Reads
-  none-near room h = (inl ((least, most), inl (room, inr (h, refl))), (refl, refl))
-
-  module _ (room : length old ≡ length rows) (f : Faults) (counted : Counted rows f) where
-    -- two odd rows are too many
-    pub many-odd : 1 < f .rows → Reads rows old (9 ∷ 0 ∷ []) old
-    many-odd h =
-        none-near room
-        (λ m.
+module _ (rows : List ℕ) (f : Faults) (counted : Counted rows f) where
+  -- two odd rows are too many
+  pub many-odd : 1 < f .rows → No (Mendable rows)
+  many-odd h = record {
+    not = λ m.
         let o : f .rows ≡ distance rows (m .0) = counted .rows-odd ∙ near-rows rows (m .0) (m .1) in
         let w : distance rows (m .0) ≤ 1 = m .1 .within in
-        omega arith)
+        omega arith;
+  }
 
-    module _ (d : ℕ) (ends : d ≡ ones (f .columns)) where
-      -- and so are two columns of the wrong parity
-      pub many-columns : 1 < d → Reads rows old (9 ∷ 0 ∷ []) old
-      many-columns h =
-          let e : d ≡ ones (bitXor wanted (summed rows)) = ends ∙ ap ones (counted .columns-wrong) in
-          none-near room (wrong-columns rows (omega arith))
+  module _ (d : ℕ) (ends : d ≡ ones (f .columns)) where
+    -- and so are two columns of the wrong parity
+    pub many-columns : 1 < d → No (Mendable rows)
+    many-columns h =
+        let e : d ≡ ones (bitXor wanted (summed rows)) = ends ∙ ap ones (counted .columns-wrong) in
+        record { not = wrong-columns rows (omega arith) }
 
+    module _ (old : List ℕ) (least : 2 ≤ length rows) (most : length rows ≤ 64) (room : length old ≡ length rows) where
       module _ (few : f .rows ≤ 1) (small : d ≤ 1) where
         -- the odd row with the wrong column's bit turned, and the rows with it
         abbrev turned : ℕ

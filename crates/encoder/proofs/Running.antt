@@ -1,10 +1,10 @@
 -- The laws of runs of steps: a step that is allowed is the step of the division, what a run leaves, and that idling is not allowed.
 use mathlib.Core.Path.{_≡_, refl, sym, ap, ap₂, _∙_, subst}
-use mathlib.Core.Logic.{inl}
 use mathlib.Core.List.{List, [], _∷_, _++_, append-assoc, append-nil}
 use Prim.Native.Nat.{ℕ, zero, suc, _+_, _<_, _≤_}
 use native.Mathlib.Omega.{arith}
 use lib.ListN.{length, getD, replicate, length-append}
+use Rattle.refusal.proofs.Ladder.{_then_}
 use Rattle.refusal.proofs.Theorems.{one-result, one-reply}
 use Rattle.field.specs.Field.{sum, timesX, shifted, product}
 use Rattle.code.specs.Word.{Characters}
@@ -15,6 +15,7 @@ use Rattle.encoder.specs.Runs.{Through, none, more, Holds}
 use Rattle.encoder.proofs.Division.{lower}
 use Rattle.encoder.proofs.Stepping.{stepped-long, stepped-get, remainder-none, remainder-more}
 use Rattle.encoder.proofs.Encoding.{characters-append, characters-remainder}
+use Rattle.encoder.proofs.Turns.{step-taken, checks-given}
 
 -- ---- the promises determine the result
 
@@ -30,12 +31,10 @@ one-asking r a b = one-reply (checkTests r) (λ fields. fields ≡ checksOf (r .
 -- ---- a step and asking, where nothing is refused
 
 pub step-on : (r : Register) (c : ℕ) → r .count < 52 → Characters (r .held) → c ≤ 63 → Steps r c (0 ∷ []) (next r c)
-unfolding Steps
-step-on r c h s m = (inl (h, inl (s, inl (m, refl))), (refl, refl))
+step-on r c h s m = step-taken r c (stepped (r .held) c) (h then s then m then tt) refl
 
 pub ask-on : (r : Register) → r .count ≡ 52 → Characters (r .held) → Checks r (0 ∷ checksOf (r .held))
-unfolding Checks
-ask-on r h s = (inl (omega arith, inl (omega arith, inl (s, refl))), refl)
+ask-on r h s = checks-given r (checksOf (r .held)) (omega arith then omega arith then s then tt) refl
 
 -- ---- runs
 

@@ -1,7 +1,6 @@
 -- What the encoder's code does, a turn and a way out at a time, over plain variables.
 use mathlib.Core.Path.{_≡_, refl, sym, ap, ap₂, _∙_, subst}
-use mathlib.Core.Bool.{Bool, true, false}
-use mathlib.Core.Logic.{inl, inr}
+use mathlib.Core.Bool.{true, false}
 use mathlib.Core.List.{List, [], _∷_, _++_, append-nil, append-assoc}
 use Prim.Native.Nat.{ℕ, suc, _+_, _-_, _/_, _%_, _<_, _≤_}
 use native.Mathlib.Nat.{add-zero, zero-add}
@@ -20,14 +19,15 @@ use Rattle.lanes.proofs.Laws.{lane-zero, lane-suc, lane-pack}
 use Rattle.code.specs.Word.{Characters}
 use Rattle.code.specs.Inside.{PowerSums}
 use Rattle.code.proofs.Words.{characters-below}
-use Rattle.refusal.specs.Promise.{Tells}
+use Rattle.refusal.specs.Promise.{Test, Tells}
 use Rattle.refusal.proofs.Laws.{tells-yes, tells-no}
+use Rattle.refusal.proofs.Ladder.{Yes, Met, FailsAt, answerAt, refuses, succeeds, declines, replies}
 use Rattle.encoder.specs.declared.Register.{Register}
 use Rattle.encoder.specs.declared.Stepped.{Stepped}
 use Rattle.encoder.specs.declared.StepAnswer.{StepAnswer}
 use Rattle.encoder.specs.Division.{remainder}
-use Rattle.encoder.specs.Register.{stepped, checksOf}
-use Rattle.encoder.specs.Promises.{LineWith, Encodes, stepNumbers, Steps, Checks}
+use Rattle.encoder.specs.Register.{stepped, next, checksOf}
+use Rattle.encoder.specs.Promises.{encodingTests, LineWith, Encodes, stepNumbers, stepTests, Steps, checkTests, Checks}
 use Rattle.encoder.specs.Interpolation.{ChecksWith, eleven}
 use Rattle.encoder.specs.Inside.{information, encoded}
 use Rattle.encoder.proofs.Division.{below, lower}
@@ -244,32 +244,28 @@ both-written word checks old out part hw hc ho e f =
 -- ---- the ways out of encoding a line
 
 module _ (t : List ℕ) (n : ℕ) (old : List ℕ) where
-  pub text-length : (length t ≡ 50 → ⊥) → Encodes t n old (1 ∷ []) old
-  unfolding Encodes
-  text-length d = (inr (d, refl), (refl, refl))
+  abbrev tests : List Test
+  tests = encodingTests t n (length old)
 
-  pub room-length : length t ≡ 50 → (length old ≡ 63 → ⊥) → Encodes t n old (5 ∷ []) old
+  pub line-refused : (i : ℕ) → FailsAt i tests → Encodes t n old (answerAt i tests ∷ []) old
   unfolding Encodes
-  room-length h d = (inl (h, inr (d, refl)), (refl, refl))
+  line-refused = refuses (λ fields l. (fields ≡ []) × LineWith t n l) 0 old tests
 
-  pub text-over : (b : Bool) → length t ≡ 50 → length old ≡ 63 → Tells (Characters t) b → b ≡ false → Encodes t n old (2 ∷ []) old
+  pub line-written : (new : List ℕ) → Met tests → LineWith t n new → Encodes t n old (0 ∷ []) new
   unfolding Encodes
-  text-over b h r s e = (inl (h, inl (r, inr (s .fails e, refl))), (refl, refl))
+  line-written new m l = succeeds (λ fields l. (fields ≡ []) × LineWith t n l) 0 old tests [] new m (refl, l)
 
-  pub number-over : (b : Bool) → length t ≡ 50 → length old ≡ 63 → Tells (Characters t) b → b ≡ true → (n ≤ 4095 → ⊥) → Encodes t n old (4 ∷ []) old
-  unfolding Encodes
-  number-over b h r s e o = (inl (h, inl (r, inl (s .holds e, inr (o, refl)))), (refl, refl))
-
-  pub line-written : (b : Bool) (w s r k new : List ℕ) → length t ≡ 50 → length old ≡ 63 → Tells (Characters t) b → b ≡ true → n ≤ 4095
-      → w ≡ information t n ++ replicate 11 0 → PowerSums w s → ChecksWith s r → k ≡ checksOf r → new ≡ take 52 w ++ k → Encodes t n old (0 ∷ []) new
-  unfolding Encodes encoded
-  line-written b w s r k new h o c e m ew ps cw ek en =
-      let i : List ℕ = information t n in
-      let long : length i ≡ 52 = information-long t n h in
-      let left : r ≡ remainder i =
-      checks-remainder i s r long (information-characters t n (c .holds e) m) (subst (λ (l : List ℕ). PowerSums l s) ew ps) cw in
-      let same : new ≡ encoded t n = en ∙ ap₂ _++_ (ap (take 52) ew ∙ take-at i (replicate 11 0) 52 long) (ek ∙ ap checksOf left) in
-      (inl (h, inl (o, inl (c .holds e, inl (m, refl)))), (refl, subst (LineWith t n) (sym same) (encoded-line t n h (c .holds e) m)))
+-- the information of a text and a number, and the checks with its power sums
+pub the-line : (t : List ℕ) (n : ℕ) (w s r k new : List ℕ) → length t ≡ 50 → Yes (Characters t) → n ≤ 4095 → w ≡ information t n ++ replicate 11 0
+    → PowerSums w s → ChecksWith s r → k ≡ checksOf r → new ≡ take 52 w ++ k → LineWith t n new
+unfolding encoded
+the-line t n w s r k new h c m ew ps cw ek en =
+    let i : List ℕ = information t n in
+    let long : length i ≡ 52 = information-long t n h in
+    let left : r ≡ remainder i =
+    checks-remainder i s r long (information-characters t n (c .is) m) (subst (λ (l : List ℕ). PowerSums l s) ew ps) cw in
+    let same : new ≡ encoded t n = en ∙ ap₂ _++_ (ap (take 52) ew ∙ take-at i (replicate 11 0) 52 long) (ek ∙ ap checksOf left) in
+    subst (LineWith t n) (sym same) (encoded-line t n h (c .is) m)
 
 -- ---- the ways out of a step
 
@@ -278,40 +274,22 @@ module _ (r : Register) (c : ℕ) where
       → Steps r c (stepNumbers (s .answer)) (s .register)
   step-answered s q a e p = rw (e .0) (rw (e .1) p)
 
-  pub step-full : 52 ≤ r .count → Steps r c (11 ∷ []) r
+  pub step-refused : (i : ℕ) → FailsAt i (stepTests r c) → Steps r c (answerAt i (stepTests r c) ∷ []) r
   unfolding Steps
-  step-full h = (inr (λ p. omega arith, refl), (refl, refl))
+  step-refused = refuses (λ fields q. (fields ≡ []) × (q ≡ next r c)) 0 r (stepTests r c)
 
-  pub held-over : (b : Bool) → r .count < 52 → Tells (Characters (r .held)) b → b ≡ false → Steps r c (2 ∷ []) r
+  pub step-taken : (left : List ℕ) → Met (stepTests r c) → left ≡ stepped (r .held) c → Steps r c (0 ∷ []) (record { held = left; count = r .count + 1 })
   unfolding Steps
-  held-over b h s e = (inl (h, inr (s .fails e, refl)), (refl, refl))
-
-  pub character-over : (b : Bool) → r .count < 52 → Tells (Characters (r .held)) b → b ≡ true → 63 < c → Steps r c (2 ∷ []) r
-  unfolding Steps
-  character-over b h s e o = (inl (h, inl (s .holds e, inr (λ p. omega arith, refl))), (refl, refl))
-
-  pub step-taken : (b : Bool) (left : List ℕ) → r .count < 52 → Tells (Characters (r .held)) b → b ≡ true → c ≤ 63 → left ≡ stepped (r .held) c
-      → Steps r c (0 ∷ []) (record { held = left; count = r .count + 1 })
-  unfolding Steps
-  step-taken b left h s e m el =
-      (inl (h, inl (s .holds e, inl (m, refl))), (refl, ap (λ (l : List ℕ). record { held = l; count = r .count + 1 }) el))
+  step-taken left m e =
+      succeeds (λ fields q. (fields ≡ []) × (q ≡ next r c)) 0 r (stepTests r c) [] _ m (refl, ap (λ (l : List ℕ). record { held = l; count = r .count + 1 }) e)
 
 -- ---- the ways out of asking for the checks
 
 module _ (r : Register) where
-  pub asked-over : 52 < r .count → Checks r (11 ∷ replicate 11 0)
+  pub asking-refused : (i : ℕ) → FailsAt i (checkTests r) → Checks r (answerAt i (checkTests r) ∷ replicate 11 0)
   unfolding Checks
-  asked-over h = (inr (λ p. omega arith, refl), (refl, refl))
+  asking-refused = declines (λ fields. fields ≡ checksOf (r .held)) 11 (checkTests r)
 
-  pub asked-early : r .count < 52 → Checks r (12 ∷ replicate 11 0)
+  pub checks-given : (k : List ℕ) → Met (checkTests r) → k ≡ checksOf (r .held) → Checks r (0 ∷ k)
   unfolding Checks
-  asked-early h = (inl (omega arith, inr (λ p. omega arith, refl)), (refl, refl))
-
-  pub asked-held-over : (b : Bool) → r .count ≤ 52 → 52 ≤ r .count → Tells (Characters (r .held)) b → b ≡ false → Checks r (2 ∷ replicate 11 0)
-  unfolding Checks
-  asked-held-over b h l s e = (inl (h, inl (l, inr (s .fails e, refl))), (refl, refl))
-
-  pub checks-given : (b : Bool) (k : List ℕ) → r .count ≤ 52 → 52 ≤ r .count → Tells (Characters (r .held)) b → b ≡ true → k ≡ checksOf (r .held)
-      → Checks r (0 ∷ k)
-  unfolding Checks
-  checks-given b k h l s e ek = (inl (h, inl (l, inl (s .holds e, refl))), ek)
+  checks-given = replies (λ fields. fields ≡ checksOf (r .held)) 11 (checkTests r)

@@ -1,15 +1,15 @@
 -- The field's theorems, in the paper's order: the powers of α, the quotient, that each entry point allows one answer, which answer a quotient by 0 has, and
 -- what a finger finds in the written table of products.
 use mathlib.Core.Path.{_≡_, refl, sym, ap, _∙_}
-use mathlib.Core.Bool.{true, false}
 use mathlib.Core.Logic.{⊎-elim}
 use mathlib.Core.List.{List, [], _∷_, map}
 use Prim.Native.Nat.{ℕ, zero, _<_, _≤_}
 use native.Mathlib.Omega.{arith}
 use lib.ListN.{getD}
 use Rattle.refusal.specs.declared.Refusal.the-variants.{ValueOver, QuotientByZero}
-use Rattle.refusal.specs.Promise.{Test, _else_}
-use Rattle.refusal.proofs.Laws.{one-refusal, refusal-positive, Passed, tells-no}
+use Rattle.refusal.specs.Promise.{Test}
+use Rattle.refusal.proofs.Laws.{one-refusal, refusal-positive, Passed}
+use Rattle.refusal.proofs.Ladder.{_then_, denied}
 use Rattle.refusal.proofs.Theorems.{one-reply}
 use Rattle.numbers.proofs.Cases.{same-or-not, le-or-lt}
 use Rattle.field.specs.declared.Element.{Element}
@@ -18,7 +18,7 @@ use Rattle.field.specs.Field.{sum, timesX, shifted, product, α, power, 
 use Rattle.field.specs.Inside.{lookedUp, Products, inverse}
 use Rattle.field.specs.Promises.{elementNumbers, Operands, operandTests, divisionTests, OneValue, Operates, Sums, Multiplies, Divides}
 use Rattle.field.proofs.Laws
-use Rattle.field.proofs.Turns.{none-over, not-elements, both-elements, by-nothing, by-something}
+use Rattle.field.proofs.Turns.{refused, with-value, by-nothing}
 
 -- the powers of α run 1, 2, 4, 8, 16, 32, 3, 6, 12, 24, 48, 35, ..
 pub first-powers : map (power α) (0 ∷ 1 ∷ 2 ∷ 3 ∷ 4 ∷ 5 ∷ 6 ∷ 7 ∷ 8 ∷ 9 ∷ 10 ∷ 11 ∷ []) ≡ 1 ∷ 2 ∷ 4 ∷ 8 ∷ 16 ∷ 32 ∷ 3 ∷ 6 ∷ 12 ∷ 24 ∷ 48 ∷ 35 ∷ []
@@ -90,14 +90,14 @@ one-division u v r s p q = one-element r s (same-quotients u v (elementNumbers r
 
 -- is refused with 13
 pub refused-by-zero : (u : ℕ) → u ≤ 63 → Divides u 0 (elementNumbers (Refused QuotientByZero))
-refused-by-zero u h = by-nothing u 0 true (none-over u 0 h (omega arith)) refl refl
+refused-by-zero u h = refused (divisionTests u 0) (Quotient u 0) 1 (record { first = h; second = omega arith } then by-nothing refl)
 
 pub by-zero : (u : ℕ) → u ≤ 63 → (r : Element) → Divides u 0 (elementNumbers r) → r ≡ Refused QuotientByZero
 by-zero u h r p = one-division u 0 r (Refused QuotientByZero) p (refused-by-zero u h)
 
 -- after 2: where an operand is over 63, the answer is 2 whatever the divisor
 pub operands-first : (u v : ℕ) → (Operands u v → ⊥) → (r : Element) → Divides u v (elementNumbers r) → r ≡ Refused ValueOver
-operands-first u v n r p = one-division u v r (Refused ValueOver) p (not-elements (Quotient u v) u v false (tells-no n) ((0 < v else QuotientByZero) ∷ []) refl)
+operands-first u v n r p = one-division u v r (Refused ValueOver) p (refused (divisionTests u v) (Quotient u v) 0 (denied n))
 
 pub seventy-by-zero : (r : Element) → Divides 70 0 (elementNumbers r) → r ≡ Refused ValueOver
 seventy-by-zero = operands-first 70 0 (λ o. let h : 70 ≤ 63 = o .first in omega arith)
@@ -106,7 +106,7 @@ seventy-by-zero = operands-first 70 0 (λ o. let h : 70 ≤ 63 = o .first in ome
 pub by-others : (u v : ℕ) → u ≤ 63 → v ≤ 63 → 0 < v → (r : Element) → Divides u v (elementNumbers r) → (w : ℕ) × (r ≡ Value w) × Quotient u v w
 by-others u v hu hv p r d =
     let q = a-quotient u v (omega arith) p (omega arith) in
-    (q .0, one-division u v r (Value (q .0)) d (by-something u v true (none-over u v hu hv) refl (q .0) (q .1)), q .1)
+    (q .0, one-division u v r (Value (q .0)) d (with-value (divisionTests u v) (Quotient u v) (q .0) (record { first = hu; second = hv } then p then tt) (q .1)), q .1)
 
 -- ---- the written table
 
@@ -119,7 +119,7 @@ module _ (rows : List (List ℕ)) (p : Products rows) where
   pub product-there : (u v : ℕ) → u ≤ 63 → v ≤ 63 → (r : Element) → Multiplies u v (elementNumbers r) → r ≡ Value (lookedUp rows u v)
   product-there u v hu hv r m =
       one-product u v r (Value (lookedUp rows u v)) m
-      (both-elements (λ w. w ≡ product u v) u v true (none-over u v hu hv) refl (lookedUp rows u v) (p .entry u v (omega arith) (omega arith)))
+      (with-value (operandTests u v) (λ w. w ≡ product u v) (lookedUp rows u v) (record { first = hu; second = hv } then tt) (p .entry u v (omega arith) (omega arith)))
 
   -- whichever of the two is the row
   pub either-way : (u v : ℕ) → u < 64 → v < 64 → lookedUp rows u v ≡ lookedUp rows v u

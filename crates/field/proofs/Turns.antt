@@ -1,7 +1,6 @@
 -- What the field's code does over plain variables: an entry of the table of inverses, a division, a test, and a way out at a time.
 use mathlib.Core.Path.{_≡_, refl, sym, ap, _∙_, subst}
-use mathlib.Core.Logic.{inl, inr}
-use mathlib.Core.Bool.{Bool, true, false}
+use mathlib.Core.Bool.{true, false}
 use mathlib.Core.List.{List, [], _∷_}
 use Prim.Native.Nat.{ℕ, _%_, _<_, _≤_}
 use native.Mathlib.Nat.{mod-eq-of-lt}
@@ -10,12 +9,12 @@ use lib.Dec.{T, eqb, eqb→eq, ltb, ltb→lt}
 use Rattle.numbers.proofs.Cases.{pos-of-not-zero}
 use Rattle.numbers.proofs.Range.{both, both-left, both-right}
 use Rattle.numbers.proofs.Arms.{NoneFrom, none-left}
-use Rattle.refusal.specs.declared.Refusal.the-variants.{ValueOver}
-use Rattle.refusal.specs.Promise.{Test, _else_, Tells}
+use Rattle.refusal.specs.Promise.{Test, Tells}
 use Rattle.refusal.proofs.Laws.{tells-yes, tells-no}
+use Rattle.refusal.proofs.Ladder.{Yes, No, Met, FailsAt, answerAt, declines, replies}
 use Rattle.field.specs.Field.{product, Quotient}
 use Rattle.field.specs.Inside.{inverse}
-use Rattle.field.specs.Promises.{Operands, operandTests, Operates, Divides}
+use Rattle.field.specs.Promises.{Operands, OneValue, Operates}
 use Rattle.field.proofs.Laws
 
 -- ---- the inverse, by its table
@@ -56,35 +55,33 @@ second-over u v h = tells-no (λ t. omega arith)
 pub none-over : (u v : ℕ) → u ≤ 63 → v ≤ 63 → Tells (Operands u v) true
 none-over u v hu hv = tells-yes (record { first = hu; second = hv })
 
-module _ (Is : ℕ → Type 0) (u v : ℕ) (b : Bool) (t : Tells (Operands u v) b) where
-  pub not-elements : (ts : List Test) → b ≡ false → Operates ((Operands u v else ValueOver) ∷ ts) Is (2 ∷ 0 ∷ [])
+module _ (ts : List Test) (Is : ℕ → Type 0) where
+  pub refused : (n : ℕ) → FailsAt n ts → Operates ts Is (answerAt n ts ∷ 0 ∷ [])
   unfolding Operates
-  not-elements ts e = (inr (t .fails e, refl), (refl, refl))
+  refused = declines (OneValue Is) 1 ts
 
-  pub both-elements : b ≡ true → (w : ℕ) → Is w → Operates (operandTests u v) Is (0 ∷ w ∷ [])
+  pub with-value : (w : ℕ) → Met ts → Is w → Operates ts Is (0 ∷ w ∷ [])
   unfolding Operates
-  both-elements e w i = (inl (t .holds e, refl), record { value = w; alone = refl; is = i })
+  with-value w m i = replies (OneValue Is) 1 ts (w ∷ []) m (record { value = w; alone = refl; is = i })
 
--- ---- the ways out of a division, both operands being elements
+-- ---- a division, both operands being elements
 
-module _ (u v : ℕ) (b : Bool) (t : Tells (Operands u v) b) (e : b ≡ true) where
+module _ (u v : ℕ) (elements : Yes (Operands u v)) where
   low-first : u % 64 ≡ u
-  low-first = let h : u ≤ 63 = t .holds e .first in mod-eq-of-lt (omega arith)
+  low-first = let h : u ≤ 63 = elements .is .first in mod-eq-of-lt (omega arith)
 
   low-second : v % 64 ≡ v
-  low-second = let h : v ≤ 63 = t .holds e .second in mod-eq-of-lt (omega arith)
-
-  pub by-nothing : v ≡ 0 → Divides u v (13 ∷ 0 ∷ [])
-  unfolding Operates
-  by-nothing z = (inl (t .holds e, inr ((λ p. omega arith), refl)), (refl, refl))
+  low-second = let h : v ≤ 63 = elements .is .second in mod-eq-of-lt (omega arith)
 
   pub not-nothing : (v ≡ 0 → ⊥) → 0 < v % 64
-  not-nothing = let h : v ≤ 63 = t .holds e .second in Laws.may-divide v (omega arith)
-
-  pub by-something : (w : ℕ) → Quotient u v w → Divides u v (0 ∷ w ∷ [])
-  unfolding Operates
-  by-something w q = (inl (t .holds e, inl (q .divisor, refl)), record { value = w; alone = refl; is = q })
+  not-nothing = let h : v ≤ 63 = elements .is .second in Laws.may-divide v (omega arith)
 
   -- as the inner division gives it
-  pub by-low-bits : (w : ℕ) → Quotient (u % 64) (v % 64) w → Divides u v (0 ∷ w ∷ [])
-  by-low-bits w q = by-something w (subst (λ (x : ℕ). Quotient x v w) low-first (subst (λ (y : ℕ). Quotient (u % 64) y w) low-second q))
+  pub by-low-bits : (w : ℕ) → Quotient (u % 64) (v % 64) w → Quotient u v w
+  by-low-bits w q = subst (λ (x : ℕ). Quotient x v w) low-first (subst (λ (y : ℕ). Quotient (u % 64) y w) low-second q)
+
+pub by-nothing : {v : ℕ} → v ≡ 0 → No (0 < v)
+by-nothing z = record { not = λ p. omega arith }
+
+pub by-something : {v : ℕ} → (v ≡ 0 → ⊥) → Yes (0 < v)
+by-something {v} d = record { is = pos-of-not-zero v d }

@@ -1,7 +1,6 @@
 -- The ways out of reading a line, a test at a time, in the paper's order.
-use mathlib.Core.Path.{_≡_, refl, sym, ap, ap₂, _∙_, subst}
-use mathlib.Core.Bool.{Bool, true, false}
-use mathlib.Core.Logic.{inl, inr}
+use mathlib.Core.Path.{_≡_, sym, ap, ap₂, _∙_, subst}
+use mathlib.Core.Bool.{true, false}
 use mathlib.Core.List.{List, [], _∷_, _++_, append-nil}
 use Prim.Native.Nat.{ℕ, min, _+_, _*_, _%_, _<_, _≤_}
 use native.Mathlib.Nat.{mod-eq-of-lt}
@@ -10,18 +9,19 @@ use lib.Dec.{leb, eqb}
 use lib.ListN.{length, getD, take, drop}
 use lib.Seq.{take-all, drop-length}
 use borrow.Author.Tests.{leb-true, leb-false, eqb-true, eqb-false}
-use Rattle.refusal.specs.Promise.{Tells}
+use Rattle.refusal.specs.Promise.{Test, Tells}
 use Rattle.refusal.proofs.Laws.{tells-yes}
+use Rattle.refusal.proofs.Ladder.{Yes, No, Met, FailsAt, answerAt, refuses, succeeds}
 use Rattle.code.specs.Word.{Characters, Line, marks, number, distance}
 use Rattle.code.specs.Inside.{PowerSums}
 use Rattle.code.proofs.Lines.{line-long, line-characters, line-sums, sums-line}
 use Rattle.code.proofs.Theorems.{one-line-near}
 use Rattle.mender.specs.declared.Mended.{Mended}
-use Rattle.mender.specs.Mender.{Word, HasSums, Nearest}
+use Rattle.mender.specs.Mender.{HasSums, Nearest}
 use Rattle.mender.proofs.Finding.{nearest-as}
 use Rattle.line.specs.declared.Wanted.{Wanted}
 use Rattle.line.specs.declared.Wanted.the-variants as W
-use Rattle.line.specs.Promises.{Within, Possible, Carries, told, ReadAs, Reads}
+use Rattle.line.specs.Promises.{Within, Readable, Possible, Carries, Fitting, readingTests, told, ReadAs, Reads}
 use Rattle.line.specs.Inside.{IsWanted}
 
 -- ---- the nearest line: a line is a word with the power sums of the marks
@@ -64,90 +64,58 @@ wanted-of (W.Number m) l n e c = e ∙ c
 -- ---- the tests
 
 module _ (w : List ℕ) (t : ℕ) (wanted : Wanted) (old : List ℕ) where
-  pub other-length : (length w ≡ 63 → ⊥) → Reads w t wanted old (1 ∷ 0 ∷ 0 ∷ 0 ∷ 0 ∷ []) old
+  abbrev tests : List Test
+  tests = readingTests w t wanted (length old)
+
+  pub refused : (n : ℕ) → FailsAt n tests → Reads w t wanted old (answerAt n tests ∷ 0 ∷ 0 ∷ 0 ∷ 0 ∷ []) old
   unfolding Reads
-  other-length d = (inr (d, refl), (refl, refl))
+  refused = refuses (ReadAs t w) 4 old tests
 
-  module _ (long : length w ≡ 63) where
-    pub other-room : (length old ≡ 63 → ⊥) → Reads w t wanted old (5 ∷ 0 ∷ 0 ∷ 0 ∷ 0 ∷ []) old
-    unfolding Reads
-    other-room d = (inl (long, inr (d, refl)), (refl, refl))
+  pub read : (fields new : List ℕ) → Met tests → ReadAs t w fields new → Reads w t wanted old (0 ∷ fields) new
+  unfolding Reads
+  read = succeeds (ReadAs t w) 4 old tests
 
-    module _ (room : length old ≡ 63) (b : Bool) (range : Tells (Characters w) b) where
-      pub out-of-range : b ≡ false → Reads w t wanted old (2 ∷ 0 ∷ 0 ∷ 0 ∷ 0 ∷ []) old
-      unfolding Reads
-      out-of-range q = (inl (long, inl (room, inr (range .fails q, refl))), (refl, refl))
+-- ---- what is found: no line, another one than is wanted, or the line
 
-      module _ (in-range : b ≡ true) where
-        pub radius-over : 5 < t → Reads w t wanted old (3 ∷ 0 ∷ 0 ∷ 0 ∷ 0 ∷ []) old
-        unfolding Reads
-        radius-over h = (inl (long, inl (room, inl (range .holds in-range, inr (λ g. omega arith, refl)))), (refl, refl))
+module _ (w : List ℕ) (t : ℕ) (m : Mended) (nearest : Nearest Line w (min t 5) m) where
+  pub none : length w ≡ 63 → Yes (Characters w) → t ≤ 5 → m .found ≡ false → No (Readable t w)
+  none long characters small q = record {
+    not = λ r. let g = r .1 .near in nearest .none q (record { long = long; characters = characters .is }) (r .0) (r .1 .line) (omega arith);
+  }
 
-        module _ (small : t ≤ 5) (p : Bool) (possible : Tells (Possible wanted) p) where
-          pub number-over : p ≡ false → Reads w t wanted old (4 ∷ 0 ∷ 0 ∷ 0 ∷ 0 ∷ []) old
-          unfolding Reads
-          number-over q = (inl (long, inl (room, inl (range .holds in-range, inl (small, inr (possible .fails q, refl))))), (refl, refl))
+  module _ (here : m .found ≡ true) where
+    within : Within t w (m .word)
+    within =
+        let d = nearest .apart here in
+        let g = nearest .within here in
+        record { line = nearest .is here; near = omega arith }
 
-          module _ (can : p ≡ true) (m : Mended) (nearest : Nearest Line w (min t 5) m) where
-            word-here : Word w
-            word-here = record { long = long; characters = range .holds in-range }
+    pub readable : Yes (Readable t w)
+    readable = record { is = (m .word, within) }
 
-            pub no-line : m .found ≡ false → Reads w t wanted old (6 ∷ 0 ∷ 0 ∷ 0 ∷ 0 ∷ []) old
-            unfolding Reads
-            no-line q =
-                (inl (long, inl (room, inl (range .holds in-range, inl (small, inl (possible .holds can, inr (none, refl)))))), (refl, refl))
-              where
-                none : (l : List ℕ) × Within t w l → ⊥
-                none r = let g = r .1 .near in nearest .none q word-here (r .0) (r .1 .line) (omega arith)
+    module _ (n : ℕ) (is : n ≡ getD (m .word) 50 0 % 64 * 64 + getD (m .word) 51 0 % 64) where
+      number-here : n ≡ number (m .word)
+      number-here =
+          let c = line-characters (m .word) (nearest .is here) in
+          is ∙ ap₂ (λ (x y : ℕ). x * 64 + y) (mod-eq-of-lt (c 50)) (mod-eq-of-lt (c 51))
 
-            module _ (here : m .found ≡ true) (n : ℕ) (is : n ≡ getD (m .word) 50 0 % 64 * 64 + getD (m .word) 51 0 % 64) where
-              number-here : n ≡ number (m .word)
-              number-here =
-                  let c = line-characters (m .word) (nearest .is here) in
-                  is ∙ ap₂ (λ (x y : ℕ). x * 64 + y) (mod-eq-of-lt (c 50)) (mod-eq-of-lt (c 51))
+      told-here : n ∷ m .weight ∷ m .first ∷ m .last ∷ [] ≡ told w (m .word)
+      told-here =
+          ap₂ (λ (x y : ℕ). x ∷ y ∷ m .first ∷ m .last ∷ []) number-here (nearest .apart here)
+          ∙ ap₂ (λ (x y : ℕ). number (m .word) ∷ distance w (m .word) ∷ x ∷ y ∷ []) (nearest .ends here .from) (nearest .ends here .to)
 
-              within-here : Within t w (m .word)
-              within-here =
-                  let d = nearest .apart here in
-                  let g = nearest .within here in
-                  record { line = nearest .is here; near = omega arith }
+      pub other : (wanted : Wanted) → length w ≡ 63 → t ≤ 5 → No (IsWanted wanted n) → No (Fitting t w wanted)
+      other wanted long small d = record {
+        not = λ r.
+            let same : m .word ≡ r .0 = one-line-near w (m .word) (r .0) t long small (within .line) (r .1 .line) (within .near) (r .1 .near) in
+            d .not (wanted-of wanted (r .0) n (number-here ∙ ap number same) (r .2));
+      }
 
-              told-here : n ∷ m .weight ∷ m .first ∷ m .last ∷ [] ≡ told w (m .word)
-              told-here =
-                  ap₂ (λ (x y : ℕ). x ∷ y ∷ m .first ∷ m .last ∷ []) number-here (nearest .apart here)
-                  ∙ ap₂ (λ (x y : ℕ). number (m .word) ∷ distance w (m .word) ∷ x ∷ y ∷ []) (nearest .ends here .from) (nearest .ends here .to)
+      pub fitting : (wanted : Wanted) → Yes (IsWanted wanted n) → Yes (Fitting t w wanted)
+      fitting wanted i = record { is = (m .word, within, carries-of wanted (m .word) n number-here (i .is)) }
 
-              pub other-number : (v : Bool) → Tells (IsWanted wanted n) v → v ≡ false → Reads w t wanted old (7 ∷ 0 ∷ 0 ∷ 0 ∷ 0 ∷ []) old
-              unfolding Reads
-              other-number v tells q =
-                  (inl (long, inl (room, inl (range .holds in-range, inl (small, inl (possible .holds can, inl ((m .word, within-here), inr (other, refl))))))), (refl, refl))
-                where
-                  other : (l : List ℕ) × Within t w l × Carries wanted l → ⊥
-                  other r =
-                      let same : m .word ≡ r .0 = one-line-near w (m .word) (r .0) t long small (within-here .line) (r .1 .line) (within-here .near) (r .1 .near) in
-                      tells .fails q (wanted-of wanted (r .0) n (number-here ∙ ap number same) (r .2))
-
-              pub the-line : (v : Bool) → Tells (IsWanted wanted n) v → v ≡ true → (new : List ℕ) → new ≡ m .word → Reads w t wanted old (0 ∷ n ∷ m .weight ∷ m .first ∷ m .last ∷ []) new
-              unfolding Reads
-              the-line v tells q new output = (
-                inl (
-                  long,
-                  inl (
-                    room,
-                    inl (
-                      range .holds in-range,
-                      inl (
-                        small,
-                        inl (
-                          possible .holds can,
-                          inl ((m .word, within-here), inl ((m .word, within-here, carries-of wanted (m .word) n number-here (tells .holds q)), refl)),
-                        ),
-                      ),
-                    ),
-                  ),
-                ),
-                subst (ReadAs t w (n ∷ m .weight ∷ m .first ∷ m .last ∷ [])) (sym output) (within-here, told-here),
-              )
+      pub the-line : (new : List ℕ) → new ≡ m .word → ReadAs t w (n ∷ m .weight ∷ m .first ∷ m .last ∷ []) new
+      the-line new output = subst (ReadAs t w (n ∷ m .weight ∷ m .first ∷ m .last ∷ [])) (sym output) (within, told-here)
 
 -- ---- the output
 

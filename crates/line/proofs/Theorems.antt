@@ -1,11 +1,11 @@
 -- The theorems of line reading: it yields the line within the radius, refuses for want of one exactly when there is none, tells where the word was changed, and allows one result.
 use mathlib.Core.Path.{_≡_, refl, sym, ap, ap₂, _∙_, subst}
-use mathlib.Core.Logic.{inl, inr}
 use mathlib.Core.List.{List, [], _∷_}
 use Prim.Native.Nat.{ℕ, min, _≤_}
 use native.Mathlib.Omega.{arith}
 use lib.ListN.{length, getD}
 use Rattle.refusal.proofs.Laws.{one-refusal, refusal-positive, passed}
+use Rattle.refusal.proofs.Ladder.{_then_, denied}
 use Rattle.refusal.proofs.Theorems.{one-result, same-numbers}
 use Rattle.code.specs.Word.{Characters, Line, number, distance, nowhere, firstChanged, lastChanged}
 use Rattle.code.proofs.Lines.{line-long}
@@ -19,6 +19,7 @@ use Rattle.line.specs.declared.LineReading.{LineReading}
 use Rattle.line.specs.declared.LineReading.the-variants as R
 use Rattle.line.specs.Promises.{readingNumbers, Within, Readable, readingTests, told, ReadAs, Reads}
 use Rattle.line.specs.Inside.{NearestLine}
+use Rattle.line.proofs.Reading.{refused, read}
 
 -- if a line lies within t it is the only one
 pub one-within : (t : ℕ) (w l m : List ℕ) → length w ≡ 63 → t ≤ 5 → Within t w l → Within t w m → l ≡ m
@@ -61,9 +62,9 @@ module _ (w : List ℕ) (t : ℕ) (wanted : Wanted) where
 module _ (w : List ℕ) (t : ℕ) (old : List ℕ) (long : length w ≡ 63) (room : length old ≡ 63) (characters : Characters w) (small : t ≤ 5) where
   -- reading yields the line within t, with its number, its distance, and the first and the last changed address
   pub reads-line : (l : List ℕ) → Within t w l → Reads w t W.Any old (readingNumbers (R.Line (number l) (distance w l) (firstChanged w l) (lastChanged w l))) l
-  unfolding Reads
   reads-line l p =
-      (inl (long, inl (room, inl (characters, inl (small, inl (tt, inl ((l, p), inl ((l, p, tt), refl))))))), (p, refl))
+      read w t W.Any old (told w l) l
+      (long then room then characters then small then tt then (l, p) then (l, p, tt) then tt) (p, refl)
 
   -- so where there is one, every result is that
   pub read-within : (l : List ℕ) → Within t w l → (r : LineReading) (x : List ℕ) → Reads w t W.Any old (readingNumbers r) x
@@ -72,8 +73,7 @@ module _ (w : List ℕ) (t : ℕ) (old : List ℕ) (long : length w ≡ 63) (roo
 
   -- and where there is none it refuses, for want of one, and only there
   pub reads-none : (Readable t w → ⊥) → Reads w t W.Any old (6 ∷ 0 ∷ 0 ∷ 0 ∷ 0 ∷ []) old
-  unfolding Reads
-  reads-none none = (inl (long, inl (room, inl (characters, inl (small, inl (tt, inr (none, refl)))))), (refl, refl))
+  reads-none none = refused w t W.Any old 5 (long then room then characters then small then tt then denied none)
 
   pub refused-none : (x : List ℕ) → Reads w t W.Any old (6 ∷ 0 ∷ 0 ∷ 0 ∷ 0 ∷ []) x → Readable t w → ⊥
   unfolding Reads

@@ -1,6 +1,5 @@
 -- The ways out of a panel from a ring.
 use mathlib.Core.Path.{_≡_, refl}
-use mathlib.Core.Logic.{inl, inr}
 use mathlib.Core.List.{List, [], _∷_}
 use Prim.Native.Nat.{ℕ, zero, suc, _<_, _≤_}
 use native.Mathlib.Decide.{decLt}
@@ -11,7 +10,9 @@ use Rattle.refusal.specs.declared.Refusal.{Refusal}
 use Rattle.refusal.specs.declared.Refusal.the-variants.{Template, UnknownKind}
 use Rattle.refusal.specs.Number.{numberOf}
 use Rattle.refusal.specs.Promise.{_else_, Answer, Leaves}
-use Rattle.refusal.proofs.Laws.{refusal-positive, passed}
+use Rattle.refusal.proofs.Laws.{passed}
+use Rattle.refusal.proofs.Ladder.{FailsAt, answerAt, _then_, refuses, refuses-too}
+use Rattle.refusal.proofs.Answers.{firstTests, laterTests, met-first, without-met, refused-first, Alike, same-test, both-hold, alike-answer}
 use Rattle.code.specs.Word.{Characters, Line, text}
 use Rattle.code.proofs.Lines.{line-long, line-characters}
 use Rattle.ring.specs.declared.RingReading.{RingReading}
@@ -22,7 +23,6 @@ use Rattle.panel.specs.declared.PanelText.{PanelText}
 use Rattle.panel.specs.declared.PanelText.the-variants as P
 use Rattle.panel.specs.Promises.{panelNumbers, textTests, Plain, NoTemplate, Shows, Panels, LineOf, TextHas, ringTests, ShowsRing, PanelsRing}
 use Rattle.panel.specs.Inside.{ringLeaving}
-use Rattle.panel.proofs.Ways.{leaves-zeros}
 
 -- ---- the text of a line
 
@@ -55,19 +55,17 @@ module _ (ring : List ℕ) (t : ℕ) (old l : List ℕ) (long : length ring ≡ 
   pub text-has : (P : List ℕ → Type 0) → TextHas ring t P → P (text l)
   text-has P (m, q, holds) = rw (one-line-of ring t l m long small of q) holds
 
-  kinds : (n : ℕ) → Answer (textTests (text l) (length old)) n
-      → Answer ((TextHas ring t NoTemplate else Template) ∷ (TextHas ring t Plain else UnknownKind) ∷ []) n
-  kinds n (inr b) = absurd (b .0 (text-long l (of .1 .within .line)))
-  kinds n (inl (_, inr b)) = absurd (b .0 wide)
-  kinds n (inl (_, inl (_, inr b))) = absurd (b .0 (text-characters l (of .1 .within .line)))
-  kinds n (inl (_, inl (_, inl (_, inr b)))) = inr (λ h. b .0 (text-has NoTemplate h), b .1)
-  kinds n (inl (_, inl (_, inl (_, inl (other, inr b))))) = inl ((l, of, other), inr (λ h. b .0 (text-has Plain h), b .1))
-  kinds n (inl (_, inl (_, inl (_, inl (other, inl (plain, e)))))) = inl ((l, of, other), inl ((l, of, plain), e))
+  of-text : (P : List ℕ → Type 0) (r : Refusal) → Alike (P (text l) else r) (TextHas ring t P else r)
+  of-text P r = record { over = λ h. (l, of, h); back = text-has P; refusal = refl }
 
   answers : (n : ℕ) → Answer (textTests (text l) (length old)) n → Answer (ringTests ring t (length old)) n
   answers n a =
+      let line : Line l = of .1 .within .line in
       let only = of .1 .only in
-      inl (long, inl (wide, inl (range, inl (small, inl ((_, only, omega arith), inl ((_, only, omega arith), kinds n a))))))
+      met-first 6 (ringTests ring t (length old)) n (long then wide then range then small then (_, only, omega arith) then (_, only, omega arith) then tt)
+      (alike-answer (laterTests 3 (textTests (text l) (length old))) (laterTests 6 (ringTests ring t (length old))) n
+      (of-text NoTemplate Template, (of-text Plain UnknownKind, tt))
+      (without-met 3 (textTests (text l) (length old)) n (text-long l line then wide then text-characters l line then tt) a))
 
   leaves : (n : ℕ) (fields new : List ℕ) → Leaves (Shows (text l) old) 1 old n fields new → Leaves (ShowsRing ring t old) 1 old n fields new
   leaves zero fields new s = (l, of, s)
@@ -80,37 +78,26 @@ module _ (ring : List ℕ) (t : ℕ) (old l : List ℕ) (long : length ring ≡ 
 
 -- ---- where it is not: the refusals of reading a ring are this call's
 
-passes-on : (ring : List ℕ) (t room n : ℕ) → 294 ≤ room → (n ≡ 0 → ⊥) → Answer (readingTests ring t 63) n → Answer (ringTests ring t room) n
-passes-on ring t room n wide d (inr a) = inr a
-passes-on ring t room n wide d (inl (long, inr a)) = absurd (a .0 refl)
-passes-on ring t room n wide d (inl (long, inl (_, inr a))) = inl (long, inl (wide, inr a))
-passes-on ring t room n wide d (inl (long, inl (_, inl (range, inr a)))) = inl (long, inl (wide, inl (range, inr a)))
-passes-on ring t room n wide d (inl (long, inl (_, inl (range, inl (small, inr a))))) = inl (long, inl (wide, inl (range, inl (small, inr a))))
-passes-on ring t room n wide d (inl (long, inl (_, inl (range, inl (small, inl (some, inr a)))))) =
-    inl (long, inl (wide, inl (range, inl (small, inl (some, inr a)))))
-passes-on ring t room n wide d (inl (long, inl (_, inl (range, inl (small, inl (some, inl (one, e))))))) = absurd (d e)
+passes-on : (ring : List ℕ) (t room : ℕ) (r : Refusal) → 294 ≤ room → Answer (readingTests ring t 63) (numberOf r) → Answer (ringTests ring t room) (numberOf r)
+passes-on ring t room r wide a =
+    refused-first 6 (ringTests ring t room) r
+    (alike-answer (readingTests ring t 63) (firstTests 6 (ringTests ring t room)) (numberOf r)
+    (same-test, (both-hold refl wide, (same-test, (same-test, (same-test, (same-test, tt)))))) a)
 
 module _ (ring : List ℕ) (t : ℕ) (old : List ℕ) where
-  pub ring-other-length : (length ring ≡ 63 → ⊥) → PanelsRing ring t old (1 ∷ 0 ∷ []) old
+  pub ring-refused : (n : ℕ) → FailsAt n (ringTests ring t (length old)) → PanelsRing ring t old (answerAt n (ringTests ring t (length old)) ∷ 0 ∷ []) old
   unfolding PanelsRing
-  ring-other-length d = (inr (d, refl), (refl, refl))
-
-  pub ring-short-room : length ring ≡ 63 → length old < 294 → PanelsRing ring t old (5 ∷ 0 ∷ []) old
-  unfolding PanelsRing
-  ring-short-room long h = (inl (long, inr (λ g. omega arith, refl)), (refl, refl))
+  ring-refused = refuses (ShowsRing ring t old) 1 old (ringTests ring t (length old))
 
   module _ (wide : 294 ≤ length old) (held line : List ℕ) (sized : length held ≡ 63) where
-    pub ring-refused : (r : Refusal) → ReadsRing ring t held (readingNumbers (R.Refused r)) line → PanelsRing ring t old (panelNumbers (P.Refused r)) old
+    pub reading-refused : (r : Refusal) → ReadsRing ring t held (readingNumbers (R.Refused r)) line → PanelsRing ring t old (panelNumbers (P.Refused r)) old
     unfolding ReadsRing PanelsRing
-    ring-refused r p = (
-      passes-on ring t (length old) (numberOf r) wide (refusal-positive r) (rw sized at (p .0)),
-      leaves-zeros (ShowsRing ring t old) 1 old (numberOf r) (refusal-positive r),
-    )
+    reading-refused r p = refuses-too (ShowsRing ring t old) 1 old (ringTests ring t (length old)) r (passes-on ring t (length old) r wide (rw sized at (p .0)))
 
     -- a reading that is a refusal is left with
     pub ring-left : (reading : RingReading) (p : PanelText) (r : Refusal) → reading ≡ R.Refused r → ReadsRing ring t held (readingNumbers reading) line
         → p ≡ ringLeaving reading → PanelsRing ring t old (panelNumbers p) old
-    ring-left reading p r e a q = rw (q, e) (ring-refused r (rw e at a))
+    ring-left reading p r e a q = rw (q, e) (reading-refused r (rw e at a))
 
     -- and from one that is a line its text goes on
     pub ring-put : (reading : RingReading) (s n d f g : ℕ) → reading ≡ R.Line s n d f g → ReadsRing ring t held (readingNumbers reading) line

@@ -1,7 +1,6 @@
 -- What is proved of panel text from a ring: it is the text of the one line that reading gives, or the refusal of reading; a plain note recorded anywhere gives its own text, a template never any; and one result.
 use mathlib.Core.Path.{_≡_, refl, ap}
 use mathlib.Core.Bool.{true}
-use mathlib.Core.Logic.{inl, inr}
 use mathlib.Core.List.{List, _++_, map}
 use Prim.Native.Nat.{ℕ, _+_, _<_, _≤_}
 use native.Mathlib.Omega.{arith}
@@ -9,6 +8,7 @@ use lib.ListN.{length, getD, take, drop}
 use Rattle.refusal.specs.declared.Refusal.{Refusal}
 use Rattle.refusal.specs.declared.Refusal.the-variants.{InputLength, OutputLength, ManyStarts, Template, UnknownKind}
 use Rattle.refusal.proofs.Laws.{Passed, passed}
+use Rattle.refusal.proofs.Ladder.{_then_, denied, above}
 use Rattle.refusal.proofs.Theorems.{one-result}
 use Rattle.code.specs.Word.{Characters, Line, text, distance}
 use Rattle.code.proofs.Lines.{line-long, line-characters}
@@ -24,8 +24,8 @@ use Rattle.panel.specs.declared.PanelText.{PanelText}
 use Rattle.panel.specs.declared.PanelText.the-variants as P
 use Rattle.panel.specs.Harmless.{Harmless, beginsName, Printable, undone}
 use Rattle.panel.specs.Promises.{panelNumbers, kind, Plain, shown, Panels, LineOf, ringTests, ShowsRing, PanelsRing}
-use Rattle.panel.proofs.Ways.{plain-kind, template-kind, unknown-kind, by-kind, text-refused, text-shown}
-use Rattle.panel.proofs.RingWays.{text-long, text-characters, one-line-of, line-read, text-has, as-text, ring-other-length, ring-short-room, ring-refused}
+use Rattle.panel.proofs.Ways.{text-refused, text-shown}
+use Rattle.panel.proofs.RingWays.{text-long, text-characters, one-line-of, line-read, text-has, as-text, ring-refused, reading-refused}
 use Rattle.panel.proofs.Theorems.{one-panel, one-shown, writes-harmless, writes-names, writes-undone, writes-printable, writes-few, look-alike}
 
 -- ---- one result
@@ -65,8 +65,7 @@ module _ (ring : List ℕ) (t : ℕ) (old new : List ℕ) (n : ℕ) (p : PanelsR
         l,
         of,
         plain,
-        text-shown (text l) old
-            (by-kind (text l) (length old) (text-long l line) (tests .1 .0) (text-characters l line) 0 (plain-kind (kind (text l)) plain)) n new shows,
+        text-shown (text l) old n new (text-long l line then tests .1 .0 then text-characters l line then (λ f. omega arith) then plain then tt) shows,
       )
 
   -- no byte written is < > " or '
@@ -102,17 +101,17 @@ rings-look-alike ring other t u old older x y n m p q =
 module _ (ring : List ℕ) (t : ℕ) (old : List ℕ) (r : PanelText) (x : List ℕ) (p : PanelsRing ring t old (panelNumbers r) x) where
   -- a ring that is not 63 long
   pub ring-long-refused : (length ring ≡ 63 → ⊥) → (r ≡ P.Refused InputLength) × (x ≡ old)
-  ring-long-refused d = one-ring ring t old r (P.Refused InputLength) x old p (ring-other-length ring t old d)
+  ring-long-refused d = one-ring ring t old r (P.Refused InputLength) x old p (ring-refused ring t old 0 (denied d))
 
   -- an output of less than 294 bytes, whatever the ring holds
   pub ring-short-refused : length ring ≡ 63 → length old < 294 → (r ≡ P.Refused OutputLength) × (x ≡ old)
-  ring-short-refused long h = one-ring ring t old r (P.Refused OutputLength) x old p (ring-short-room ring t old long h)
+  ring-short-refused long h = one-ring ring t old r (P.Refused OutputLength) x old p (ring-refused ring t old 1 (long then above h))
 
   module _ (wide : 294 ≤ length old) where
     -- a refusal of reading passes through
     pub passes-through : (held line : List ℕ) (why : Refusal) → length held ≡ 63 → ReadsRing ring t held (readingNumbers (R.Refused why)) line
         → (r ≡ P.Refused why) × (x ≡ old)
-    passes-through held line why sized reads = one-ring ring t old r (P.Refused why) x old p (ring-refused ring t old wide held line sized why reads)
+    passes-through held line why sized reads = one-ring ring t old r (P.Refused why) x old p (reading-refused ring t old wide held line sized why reads)
 
     -- where reading gives a line l, all is as with the text of l
     module _ (l : List ℕ) (long : length ring ≡ 63) (range : Characters ring) (small : t ≤ 5) (of : LineOf ring t l) where
@@ -126,22 +125,20 @@ module _ (ring : List ℕ) (t : ℕ) (old : List ℕ) (r : PanelText) (x : List 
       pub ring-template : kind (text l) ≡ 1 → (r ≡ P.Refused Template) × (x ≡ old)
       ring-template e =
           so (P.Refused Template) old
-          (text-refused (text l) old Template
-          (by-kind (text l) (length old) (text-long l line) wide (text-characters l line) 14 (template-kind (kind (text l)) e)))
+          (text-refused (text l) old 3 (text-long l line then wide then text-characters l line then denied (λ f. f e)))
 
       -- nor does a line of a kind that is not known
       pub ring-unknown : 1 < kind (text l) → (r ≡ P.Refused UnknownKind) × (x ≡ old)
       ring-unknown h =
           so (P.Refused UnknownKind) old
-          (text-refused (text l) old UnknownKind
-          (by-kind (text l) (length old) (text-long l line) wide (text-characters l line) 15 (unknown-kind (kind (text l)) (λ e. omega arith) (λ e. omega arith))))
+          (text-refused (text l) old 4 (text-long l line then wide then text-characters l line then (λ e. omega arith) then denied (λ e. omega arith)))
 
       -- a plain line gives its text
       pub ring-plain : Plain (text l) → (r ≡ P.Written (length (shown (text l)))) × (x ≡ shown (text l) ++ drop (length (shown (text l))) old)
       ring-plain e =
           so (P.Written (length (shown (text l)))) (shown (text l) ++ drop (length (shown (text l))) old)
-          (text-shown (text l) old (by-kind (text l) (length old) (text-long l line) wide (text-characters l line) 0 (plain-kind (kind (text l)) e))
-          (length (shown (text l))) (shown (text l) ++ drop (length (shown (text l))) old) (record { count = refl; output = refl }))
+          (text-shown (text l) old (length (shown (text l))) (shown (text l) ++ drop (length (shown (text l))) old)
+          (text-long l line then wide then text-characters l line then (λ f. omega arith) then e then tt) (record { count = refl; output = refl }))
 
 -- ---- the line that reading gives is the one that `read_ring` answers with
 
@@ -181,22 +178,12 @@ module _ (l ring : List ℕ) (m e t : ℕ) (line : Line l) (start : m < 126) (lo
 
 module _ (l : List ℕ) (m t : ℕ) (line : Line l) (start : m < 126) (large : 4 ≤ t) (small : t ≤ 5) (old : List ℕ) (wide : 294 ≤ length old) where
   several : PanelsRing (recorded m l) t old (panelNumbers (P.Refused ManyStarts)) old
-  unfolding PanelsRing
   several =
       let these = undamaged-list l m line start t small in
-      let many = starts-many m t start large small in (
-        inl (
-          recorded-long m l,
-          inl (
-            wide,
-            inl (
-              recorded-characters m l (line-characters l line),
-              inl (small, inl ((recordedStarts m t, these, omega arith), inr (λ (starts, those, few). omega (arith, ap length (one-those those these)), refl))),
-            ),
-          ),
-        ),
-        (refl, refl),
-      )
+      let many = starts-many m t start large small in
+      ring-refused (recorded m l) t old 5
+      (recorded-long m l then wide then recorded-characters m l (line-characters l line) then small then (recordedStarts m t, these, omega arith) then denied
+      (λ (starts, those, few). omega (arith, ap length (one-those those these))))
 
   -- no text is ever given: every result is refusal 10
   pub undamaged-refused : (r : PanelText) (x : List ℕ) → PanelsRing (recorded m l) t old (panelNumbers r) x → (r ≡ P.Refused ManyStarts) × (x ≡ old)

@@ -9,8 +9,8 @@ use lib.ListN.{length, getD, take, drop, replicate, length-drop, List·getD-appe
 use lib.Seq.{take-append-seam, drop-append-seam, drop-cons, getD-drop}
 use Rattle.refusal.specs.declared.Refusal.{Refusal}
 use Rattle.refusal.specs.declared.Refusal.the-variants.{InputLength, OutputLength, ValueOver, Template, UnknownKind}
-use Rattle.refusal.specs.Number.{numberOf}
 use Rattle.refusal.proofs.Laws.{one-refusal, refusal-positive, Passed, passed}
+use Rattle.refusal.proofs.Ladder.{_then_, denied, above}
 use Rattle.refusal.proofs.Theorems.{one-result}
 use Rattle.code.specs.Word.{Characters}
 use Rattle.panel.specs.declared.PanelText.{PanelText}
@@ -18,10 +18,9 @@ use Rattle.panel.specs.declared.PanelText.the-variants as P
 use Rattle.panel.specs.Escaping.{writtenBy, escaped}
 use Rattle.panel.specs.Harmless.{Harmless, begins, beginsName, Printable, readBy, undoneAfter, undone}
 use Rattle.panel.specs.Promises.{panelNumbers, kind, Plain, shown, textTests, Shows, Panels}
-use Rattle.panel.specs.Inside.{Tests}
 use Rattle.panel.proofs.Names.{byte-at}
 use Rattle.panel.proofs.Escaping.{escaped-long, Fine, escaped-fine, PrintableThere, escaped-printable, names-ascii, undone-escaped}
-use Rattle.panel.proofs.Ways.{plain-kind, template-kind, unknown-kind, other-length, short-room, out-of-range, by-kind, text-refused, text-shown}
+use Rattle.panel.proofs.Ways.{text-refused, text-shown}
 
 -- ---- one result
 
@@ -121,38 +120,38 @@ look-alike v w old older x y n m p q e =
 -- ---- every result, for each text: 50 characters and an output of at least 294 bytes
 
 module _ (v old : List ℕ) (r : PanelText) (x : List ℕ) (p : Panels v old (panelNumbers r) x) where
-  refused-with : (q : Refusal) → Tests v (length old) (numberOf q) → (r ≡ P.Refused q) × (x ≡ old)
-  refused-with q a = one-text v old r (P.Refused q) x old p (text-refused v old q a)
+  refused-with : (q : Refusal) → Panels v old (panelNumbers (P.Refused q)) old → (r ≡ P.Refused q) × (x ≡ old)
+  refused-with q = one-text v old r (P.Refused q) x old p
 
   -- a text that is not 50 long
   pub long-refused : (length v ≡ 50 → ⊥) → (r ≡ P.Refused InputLength) × (x ≡ old)
-  long-refused d = refused-with InputLength (other-length v (length old) d)
+  long-refused d = refused-with InputLength (text-refused v old 0 (denied d))
 
   module _ (long : length v ≡ 50) where
     -- an output of less than 294 bytes
     pub short-refused : length old < 294 → (r ≡ P.Refused OutputLength) × (x ≡ old)
-    short-refused h = refused-with OutputLength (short-room v (length old) long h)
+    short-refused h = refused-with OutputLength (text-refused v old 1 (long then above h))
 
     module _ (wide : 294 ≤ length old) where
       -- a character over 63, whatever the kind is
       pub high-refused : (Characters v → ⊥) → (r ≡ P.Refused ValueOver) × (x ≡ old)
-      high-refused d = refused-with ValueOver (out-of-range v (length old) long wide d)
+      high-refused d = refused-with ValueOver (text-refused v old 2 (long then wide then denied d))
 
       module _ (range : Characters v) where
         -- a template
         pub template-refused : kind v ≡ 1 → (r ≡ P.Refused Template) × (x ≡ old)
-        template-refused e = refused-with Template (by-kind v (length old) long wide range 14 (template-kind (kind v) e))
+        template-refused e = refused-with Template (text-refused v old 3 (long then wide then range then denied (λ f. f e)))
 
         -- a kind that is not known
         pub unknown-refused : 1 < kind v → (r ≡ P.Refused UnknownKind) × (x ≡ old)
-        unknown-refused h = refused-with UnknownKind (by-kind v (length old) long wide range 15 (unknown-kind (kind v) (λ e. omega arith) (λ e. omega arith)))
+        unknown-refused h = refused-with UnknownKind (text-refused v old 4 (long then wide then range then (λ e. omega arith) then denied (λ e. omega arith)))
 
         -- plain text is written: what is shown of it, and the rest of the output as it was
         pub plain-written : Plain v → (r ≡ P.Written (length (shown v))) × (x ≡ shown v ++ drop (length (shown v)) old)
         plain-written e =
             one-text v old r (P.Written (length (shown v))) x (shown v ++ drop (length (shown v)) old) p
-            (text-shown v old (by-kind v (length old) long wide range 0 (plain-kind (kind v) e)) (length (shown v)) (shown v ++ drop (length (shown v)) old)
-            (record { count = refl; output = refl }))
+            (text-shown v old (length (shown v)) (shown v ++ drop (length (shown v)) old)
+            (long then wide then range then (λ f. omega arith) then e then tt) (record { count = refl; output = refl }))
 
 -- ---- 294 bytes are needed: by the text of 49 quotes, which are character 2
 

@@ -1,15 +1,16 @@
 -- The ways out of reading a text and of writing it, a test at a time, in order.
 use mathlib.Core.Path.{_≡_, refl, ap}
-use mathlib.Core.Bool.{Bool, true, false}
-use mathlib.Core.Logic.{inl, inr}
 use mathlib.Core.List.{List, [], _∷_, _++_}
-use Prim.Native.Nat.{ℕ, zero, suc, _<_, _≤_}
+use Prim.Native.Nat.{ℕ, _≤_}
 use native.Mathlib.Omega.{arith}
-use lib.ListN.{length, getD, drop, replicate, length-drop}
+use lib.ListN.{length, getD, drop, length-drop}
 use Rattle.refusal.specs.declared.Refusal.{Refusal}
+use Rattle.refusal.specs.declared.Refusal.the-variants.{Template, UnknownKind}
 use Rattle.refusal.specs.Number.{numberOf}
-use Rattle.refusal.specs.Promise.{Leaves, Tells}
-use Rattle.refusal.proofs.Laws.{refusal-positive, Passed, passed}
+use Rattle.refusal.specs.Promise.{Test, _else_}
+use Rattle.refusal.proofs.Laws.{Passed, passed}
+use Rattle.refusal.proofs.Ladder.{Met, FailsAt, answerAt, _then_, met-answer, fails-answer, refuses, refuses-too, succeeds, denied}
+use Rattle.refusal.proofs.Answers.{firstTests, met-first}
 use Rattle.code.specs.Word.{Characters}
 use Rattle.text.specs.Writing.{Puts}
 use Rattle.text.proofs.Writing.{puts-whole}
@@ -23,68 +24,54 @@ use Rattle.panel.proofs.Escaping.{escaped-long}
 
 -- ---- the kind
 
+abbrev kindTests : ℕ → List Test
+kindTests k = ((k ≡ 1 → ⊥) else Template) ∷ (k ≡ 0 else UnknownKind) ∷ []
+
 pub plain-kind : (k : ℕ) → k ≡ 0 → OfKind k 0
 unfolding OfKind
-plain-kind k e = inl (λ f. omega arith, inl (e, refl))
+plain-kind k e = met-answer (kindTests k) ((λ f. omega arith) then e then tt)
 
 pub template-kind : (k : ℕ) → k ≡ 1 → OfKind k 14
 unfolding OfKind
-template-kind k e = inr (λ f. f e, refl)
+template-kind k e = fails-answer (kindTests k) 0 (denied (λ f. f e))
 
 pub unknown-kind : (k : ℕ) → (k ≡ 0 → ⊥) → (k ≡ 1 → ⊥) → OfKind k 15
 unfolding OfKind
-unknown-kind k d f = inl (f, inr (d, refl))
+unknown-kind k d f = fails-answer (kindTests k) 1 (f then denied d)
 
 -- ---- the tests
 
 module _ (v : List ℕ) (room : ℕ) where
-  pub other-length : (length v ≡ 50 → ⊥) → Tests v room 1
+  pub not-read : (n : ℕ) → FailsAt n (textTests v room) → Tests v room (answerAt n (textTests v room))
   unfolding Tests
-  other-length d = inr (d, refl)
+  not-read = fails-answer (textTests v room)
 
-  module _ (long : length v ≡ 50) where
-    pub short-room : room < 294 → Tests v room 5
-    unfolding Tests
-    short-room h = inl (long, inr (λ g. omega arith, refl))
+  -- the first three hold, and the kind answers
+  pub by-kind : Met (firstTests 3 (textTests v room)) → (n : ℕ) → OfKind (getD v 0 0) n → Tests v room n
+  unfolding Tests OfKind
+  by-kind m n = met-first 3 (textTests v room) n m
 
-    module _ (wide : 294 ≤ room) where
-      pub out-of-range : (Characters v → ⊥) → Tests v room 2
-      unfolding Tests
-      out-of-range d = inl (long, inl (wide, inr (d, refl)))
-
-      pub by-kind : Characters v → (n : ℕ) → OfKind (getD v 0 0) n → Tests v room n
-      unfolding Tests OfKind
-      by-kind range n k = inl (long, inl (wide, inl (range, k)))
-
-      -- as the code tells the range
-      module _ (b : Bool) (range : Tells (Characters v) b) where
-        pub told-out-of-range : b ≡ false → Tests v room 2
-        told-out-of-range q = out-of-range (range .fails q)
-
-        pub told-by-kind : b ≡ true → (n : ℕ) → OfKind (getD v 0 0) n → Tests v room n
-        told-by-kind q = by-kind (range .holds q)
-
--- ---- a refusal leaves zeros, and the output as it was
-
-pub leaves-zeros : {O : Type 0} (Stated : List ℕ → O → Type 0) (k : ℕ) (old : O) (n : ℕ) → (n ≡ 0 → ⊥) → Leaves Stated k old n (replicate k 0) old
-leaves-zeros Stated k old zero d = absurd (d refl)
-leaves-zeros Stated k old (suc n) d = (refl, refl)
+-- ---- the ways out
 
 module _ (v old : List ℕ) where
-  pub text-refused : (r : Refusal) → Tests v (length old) (numberOf r) → Panels v old (panelNumbers (P.Refused r)) old
+  pub text-refused : (n : ℕ) → FailsAt n (textTests v (length old)) → Panels v old (answerAt n (textTests v (length old)) ∷ 0 ∷ []) old
+  unfolding Panels
+  text-refused = refuses (Shows v old) 1 old (textTests v (length old))
+
+  pub text-shown : (next : ℕ) (new : List ℕ) → Met (textTests v (length old)) → Shows v old (next ∷ []) new → Panels v old (panelNumbers (P.Written next)) new
+  unfolding Panels
+  text-shown next = succeeds (Shows v old) 1 old (textTests v (length old)) (next ∷ [])
+
+  left-with : (r : Refusal) → Tests v (length old) (numberOf r) → Panels v old (panelNumbers (P.Refused r)) old
   unfolding Tests Panels
-  text-refused r a = (a, leaves-zeros (Shows v old) 1 old (numberOf r) (refusal-positive r))
+  left-with = refuses-too (Shows v old) 1 old (textTests v (length old))
 
   -- a reading that is a refusal is left with
   pub text-left : (reading : TextReading) (p : PanelText) (r : Refusal) → reading ≡ T.Refused r → Tests v (length old) (readingNumber reading) → p ≡ leaving reading
       → Panels v old (panelNumbers p) old
-  text-left reading p r e a q = rw (q, e) (text-refused r (rw e at a))
+  text-left reading p r e a q = rw (q, e) (left-with r (rw e at a))
 
   -- ---- plain text goes on
-
-  pub text-shown : Tests v (length old) 0 → (next : ℕ) (new : List ℕ) → Shows v old (next ∷ []) new → Panels v old (panelNumbers (P.Written next)) new
-  unfolding Tests Panels
-  text-shown a next new s = (a, s)
 
   module _ (reading : TextReading) (is : reading ≡ T.Plain) (tests : Tests v (length old) (readingNumber reading)) where
     told : Tests v (length old) 0
@@ -116,4 +103,5 @@ module _ (v old : List ℕ) where
       next-few = omega (arith, whole .0, shown-long)
 
       pub text-put : Panels v old (0 ∷ next ∷ []) new
-      text-put = text-shown told next new (record { count = ap (λ (n : ℕ). n ∷ []) (whole .0); output = whole .1 })
+      unfolding Tests Panels
+      text-put = (told, record { count = ap (λ (n : ℕ). n ∷ []) (whole .0); output = whole .1 })

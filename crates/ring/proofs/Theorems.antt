@@ -1,7 +1,5 @@
 -- What is proved of rings, in the words of the rules and of the requests: the word at a start, a line's recording, the list, the true start alone, the false starts of an undamaged ring, a known direction, a dark ring, the marks at the starts, and one result.
 use mathlib.Core.Path.{_≡_, refl, sym, ap, ap₂, _∙_, subst}
-use mathlib.Core.Bool.{true, true≢false}
-use mathlib.Core.Logic.{inl}
 use mathlib.Core.List.{List, [], _∷_, _++_, append-assoc}
 use Prim.Native.Nat.{ℕ, suc, _+_, _-_, _%_, _<_, _≤_}
 use native.Mathlib.Nat.{le-of-eq}
@@ -10,6 +8,7 @@ use lib.ListN.{length, getD, replicate, drop, length-append}
 use Rattle.refusal.specs.declared.Refusal.the-variants.{ManyStarts}
 use Rattle.refusal.specs.Number.{numberOf}
 use Rattle.refusal.proofs.Laws.{one-refusal, refusal-positive, one-answer}
+use Rattle.refusal.proofs.Ladder.{_then_, met-answer, denied}
 use Rattle.refusal.proofs.Theorems.{one-result, same-numbers}
 use Rattle.polynomial.specs.Sums.{nonzero, weight}
 use Rattle.code.specs.Word.{Characters, marks, Line, number, distance, firstChanged, lastChanged, listed, reversed}
@@ -34,7 +33,7 @@ use Rattle.ring.proofs.Recording.{recorded-long, recorded-characters, p
 use Rattle.ring.proofs.Marks.{markDistances, mark-distance}
 use Rattle.ring.proofs.Alone.{starts-near, same-start, same-start-one-way, marks-of-start, start-of-marks}
 use Rattle.ring.proofs.Those.{At, one-those, those-entry, those-rise, those-all, one-of-those, all-those, parts}
-use Rattle.ring.proofs.Ways.{many-starts}
+use Rattle.ring.proofs.Ways.{list-written, refused, read}
 use Rattle.ring.proofs.FalseStarts.{counted-lt, seen-counted, counted-seen, starts-count, starts-many, these-starts}
 
 -- ---- the word at a start
@@ -157,9 +156,9 @@ module _ (ring : List ℕ) (t : ℕ) (long : length ring ≡ 63) (characters : C
   -- listing yields the list, whatever its length, and leaves the rest of the output
   pub lists-list : (old starts : List ℕ) → length old ≡ 126 → ListOf t ring starts
       → ListsRing ring t old (listingNumbers (L.Listed (length starts))) (starts ++ drop (length starts) old)
-  unfolding ListsRing
   lists-list old starts room these =
-      (inl (long, inl (room, inl (characters, inl (small, refl)))), record { starts = starts; these = these; count = refl; output = refl })
+      list-written ring t old (length starts ∷ []) (starts ++ drop (length starts) old) (long then room then characters then small then tt)
+      (record { starts = starts; these = these; count = refl; output = refl })
 
   -- and every result of listing is such a list
   pub listing-lists : (old : List ℕ) → length old ≡ 126 → (r : RingListing) (x : List ℕ) → ListsRing ring t old (listingNumbers r) x
@@ -169,16 +168,17 @@ module _ (ring : List ℕ) (t : ℕ) (long : length ring ≡ 63) (characters : C
       let s = p .1 in (s .starts, s .these, ap (λ (l : List ℕ). L.Listed (getD l 0 0)) (s .count), s .output)
   listing-lists old room (L.Refused s) x p =
       absurd
-      (refusal-positive s (one-answer (listingTests ring t (length old)) (numberOf s) 0 (p .0) (inl (long, inl (room, inl (characters, inl (small, refl)))))))
+      (refusal-positive s
+      (one-answer (listingTests ring t (length old)) (numberOf s) 0 (p .0)
+      (met-answer (listingTests ring t (length old)) (long then room then characters then small then tt))))
 
   -- reading yields the line at the one start of a list with one entry
   pub reads-only-start : (old l : List ℕ) (k : ℕ) → length old ≡ 63 → ListOf t ring (k ∷ []) → Within t (placed k ring) l
       → ReadsRing ring t old (readingNumbers (R.Line k (number l) (distance (placed k ring) l) (firstChanged (placed k ring) l) (lastChanged (placed k ring) l))) l
-  unfolding ReadsRing
-  reads-only-start old l k room only within = (
-    inl (long, inl (room, inl (characters, inl (small, inl ((k ∷ [], only, omega arith), inl ((k ∷ [], only, omega arith), refl)))))),
-    record { start = k; only = only; within = within; shows = refl },
-  )
+  reads-only-start old l k room only within =
+      read ring t old (k ∷ told (placed k ring) l) l
+      (long then room then characters then small then (k ∷ [], only, omega arith) then (k ∷ [], only, omega arith) then tt)
+      (record { start = k; only = only; within = within; shows = refl })
 
 -- ---- the step below demand 3: the word at start k lies at distance e from the line l, e is at most the radius t, and e + t at most 3
 
@@ -267,10 +267,9 @@ module _ (l : List ℕ) (m : ℕ) (line : Line l) (start : m < 126) where
     reads-undamaged large old room r x p =
         one-reading (recorded m l) t old r (R.Refused ManyStarts) x old p
         (let many = starts-many m t start large small in
-        many-starts (recorded m l) t old (recorded-long m l) room true
-        (record { holds = λ _. recorded-characters m l (line-characters l line); fails = λ e. absurd (true≢false e) }) refl small []
-        (length (recordedStarts m t)) (recordedStarts m t ++ drop (length (recordedStarts m t)) [])
-        (record { starts = recordedStarts m t; these = undamaged-list; count = refl; output = refl }) (λ e. omega arith) many)
+        refused (recorded m l) t old 5
+        (recorded-long m l then room then recorded-characters m l (line-characters l line) then small then (recordedStarts m t, undamaged-list, omega arith) then denied
+        (λ (starts, those, few). omega (arith, ap length (one-those those undamaged-list)))))
 
   module _ (old : List ℕ) (room : length old ≡ 126) (r : RingListing) (x : List ℕ) where
     -- one start at radius 0 to 3

@@ -8,14 +8,15 @@ use lib.ListN.{length, getD}
 use denote.Ref.{RefT, now, ptr}
 use Rattle.refusal.specs.declared.Refusal.{Refusal}
 use Rattle.refusal.specs.declared.Refusal.the-variants.{InputLength, ValueOver, RadiusOver, NoLine}
-use Rattle.refusal.specs.Number.{numberOf}
-use Rattle.refusal.specs.Promise.{Answer}
 use Rattle.refusal.proofs.Laws.{one-refusal, refusal-positive, passed}
+use Rattle.refusal.proofs.Ladder.{denied}
+use Rattle.refusal.proofs.Answers.{by-refusal}
 use Rattle.code.specs.Word.{Characters, number, distance, firstChanged, lastChanged}
 use Rattle.line.specs.declared.Wanted.the-variants as W
 use Rattle.line.specs.declared.LineReading.{LineReading}
 use Rattle.line.specs.declared.LineReading.the-variants as R
 use Rattle.line.specs.Promises.{readingNumbers, Within, readingTests, Reads}
+use Rattle.line.proofs.Reading.{refused}
 use Rattle.line.proofs.Theorems.{one-within, same-reading, reads-line}
 use Rattle.scans.specs.declared.Choice.{Choice}
 use Rattle.scans.specs.declared.Choice.the-variants.{First, Second, Neither}
@@ -113,26 +114,29 @@ module _ (x y : List ℕ) (t : ℕ) (numbers : List ℕ) (chooses : Chooses x y 
 
 -- a scan of another length is a refused scan
 pub other-length : (scan : List ℕ) (t : ℕ) (r : LineReading) → (length scan ≡ 63 → ⊥) → Answers scan t r → r ≡ R.Refused InputLength
-unfolding Reads
 other-length scan t r d p =
     one-answer scan t r (R.Refused InputLength) p
-    (record { old = p .old; new = p .old; room = p .room; reads = (inr (d, refl), (refl, refl)) })
+    (record { old = p .old; new = p .old; room = p .room; reads = refused scan t W.Any (p .old) 0 (denied d) })
 
 -- a refusal is for its length, a character, the radius, or for want of a line: there is no output that could be of another length, and no wanted number
 pub scan-refusals : (scan : List ℕ) (t : ℕ) (r : Refusal) → Answers scan t (R.Refused r)
     → (r ≡ InputLength) ⊎ ((r ≡ ValueOver) ⊎ ((r ≡ RadiusOver) ⊎ (r ≡ NoLine)))
 unfolding Reads
-scan-refusals scan t r p = by (p .reads .0)
-  where
-    by : Answer (readingTests scan t W.Any (length (p .old))) (numberOf r) → (r ≡ InputLength) ⊎ ((r ≡ ValueOver) ⊎ ((r ≡ RadiusOver) ⊎ (r ≡ NoLine)))
-    by (inr q) = inl (one-refusal r InputLength (q .1))
-    by (inl (_, inr q)) = absurd (q .0 (p .room))
-    by (inl (_, inl (_, inr q))) = inr (inl (one-refusal r ValueOver (q .1)))
-    by (inl (_, inl (_, inl (_, inr q)))) = inr (inr (inl (one-refusal r RadiusOver (q .1))))
-    by (inl (_, inl (_, inl (_, inl (_, inr q))))) = absurd (q .0 tt)
-    by (inl (_, inl (_, inl (_, inl (_, inl (_, inr q)))))) = inr (inr (inr (one-refusal r NoLine (q .1))))
-    by (inl (_, inl (_, inl (_, inl (_, inl (_, inl (l, inr q))))))) = absurd (q .0 (l .0, l .1, tt))
-    by (inl (_, inl (_, inl (_, inl (_, inl (_, inl (_, inl (_, q)))))))) = absurd (refusal-positive r q)
+scan-refusals scan t r p =
+    by-refusal (λ (q : Refusal). (q ≡ InputLength) ⊎ ((q ≡ ValueOver) ⊎ ((q ≡ RadiusOver) ⊎ (q ≡ NoLine)))) (readingTests scan t W.Any (length (p .old))) r
+    (p .reads .0) (
+      λ _. inl refl,
+      λ _. (
+        λ d. absurd (d (p .room)),
+        λ _. (
+          λ _. inr (inl refl),
+          λ _. (
+            λ _. inr (inr (inl refl)),
+            λ _. (λ d. absurd (d tt), λ _. (λ _. inr (inr (inr refl)), λ l. (λ d. absurd (d (l .0, l .1, tt)), λ _. tt))),
+          ),
+        ),
+      ),
+    )
 
 -- ---- which scan is kept, by the lines that lie near them
 

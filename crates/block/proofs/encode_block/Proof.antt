@@ -1,35 +1,21 @@
 -- `block::encode_block` meets its contract: each return is one way in which encoding ends.
 use native.Mathlib.Omega.{arith}
 use borrow.Author.Needs.{needs}
-use Rattle.block.proofs.Encoding.{few-data, many-data, other-room, over, written}
+use Rattle.refusal.proofs.Ladder.{denied, verdicts}
+use Rattle.block.proofs.Encoding.{refused, written}
 use Rattle.block.proofs.encode_block.Statement.{statement}
 use Rattle.block.proofs.encode_block.Tie as tie
-
-returns : tie.Need-returns
-returns c = few-data _ _ (omega arith)
-
-returns-2 : tie.Need-returns-2
-returns-2 c = many-data _ _ (omega arith)
-
-returns-3 : tie.Need-returns-3
-returns-3 c = other-room _ _ (omega arith) (omega arith) (search needs)
-
-returns-4 : tie.Need-returns-4
-returns-4 c = search (over, needs)
-
-returns-5 : tie.Need-returns-5
-returns-5 c = search (written, needs)
 
 pub encode-block-spec : {M : Type 1} → statement M
 encode-block-spec =
     tie.close
     (tie.spec
-    returns
-    returns-2
+    (λ c. refused _ _ 0 (denied (λ g. omega arith)))
+    (λ c. refused _ _ 0 (denied (λ g. omega arith)))
     (λ c. search needs)
-    returns-3
+    (λ c. refused _ _ 1 (search verdicts))
     (λ c κs. search needs)
-    returns-4
+    (λ c. refused _ _ 2 (search verdicts))
     (λ c κs. search needs)
     (λ c. search needs)
-    returns-5)
+    (λ c. written _ _ (search verdicts depth 9) _ (search needs)))

@@ -2,28 +2,20 @@
 use Prim.Native.Nat.{_<_, _≤_}
 use native.Mathlib.Omega.{arith}
 use borrow.Author.Needs.{needs}
-use Rattle.block.proofs.Reading.{few-rows, many-rows, other-room, many-odd, many-columns, row-inside, found}
+use Rattle.refusal.proofs.Ladder.{denied, verdicts}
+use Rattle.block.proofs.Reading.{refused, many-odd, many-columns, row-inside, found}
 use Rattle.block.proofs.read_block.Statement.{statement}
 use Rattle.block.proofs.read_block.Tie as tie
-
-returns : tie.Need-returns
-returns c = few-rows _ _ (omega arith)
-
-returns-2 : tie.Need-returns-2
-returns-2 c = many-rows _ _ (omega arith)
-
-returns-3 : tie.Need-returns-3
-returns-3 c = other-room _ _ (omega arith) (omega arith) (search needs)
 
 returns-4 : tie.Need-returns-4
 returns-4 c =
     let many : 1 < c .before .before .faults-of .result .rows = omega arith in
-    search (many-odd, needs)
+    refused _ _ 2 (search (many-odd, verdicts))
 
 returns-5 : tie.Need-returns-5
 returns-5 c =
     let many : 1 < c .before .ones-of .result = omega arith in
-    search (many-columns, needs)
+    refused _ _ 2 (search (many-columns, verdicts))
 
 slice-read-output : tie.Need-slice-read-output
 slice-read-output c = search row-inside
@@ -42,9 +34,9 @@ pub read-block-spec : {M : Type 1} → statement M
 read-block-spec =
     tie.close
     (tie.spec
-    returns
-    returns-2
-    returns-3
+    (λ c. refused _ _ 0 (denied (λ g. omega arith)))
+    (λ c. refused _ _ 0 (denied (λ g. omega arith)))
+    (λ c. refused _ _ 1 (search verdicts))
     (λ c κs. search needs)
     returns-4
     (λ c κs. search needs)

@@ -2,15 +2,10 @@
 use native.Mathlib.Omega.{arith}
 use lib.ListN.{length-take}
 use borrow.Author.Needs.{needs}
-use Rattle.panel.proofs.RingWays.{ring-other-length, ring-short-room, ring-left, ring-put}
+use Rattle.refusal.proofs.Ladder.{_then_, denied, verdicts}
+use Rattle.panel.proofs.RingWays.{ring-refused, ring-left, ring-put}
 use Rattle.panel.proofs.panel_ring.Statement.{statement}
 use Rattle.panel.proofs.panel_ring.Tie as tie
-
-returns : tie.Need-returns
-returns c = search (ring-other-length, needs)
-
-returns-2 : tie.Need-returns-2
-returns-2 c = search (ring-short-room, needs)
 
 returns-3 : tie.Need-returns-3
 returns-3 c =
@@ -31,8 +26,8 @@ pub panel-ring-spec : {M : Type 1} → statement M
 panel-ring-spec =
     tie.close
     (tie.spec
-    returns
-    returns-2
+    (λ c. ring-refused _ _ _ 0 (search verdicts))
+    (λ c. ring-refused _ _ _ 1 (omega arith then denied (λ g. omega arith)))
     (λ c. search needs)
     (λ c κs. search needs)
     (λ c. search needs)

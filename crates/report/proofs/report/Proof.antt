@@ -1,11 +1,10 @@
 -- report keeps its promise: a buffer too short is refused, and any other has room for the header and what put_tray puts.
+use native.Mathlib.Omega.{arith}
 use borrow.Author.Needs.{needs}
-use Rattle.report.proofs.Whole.{no-room, whole-text}
+use Rattle.refusal.proofs.Ladder.{denied}
+use Rattle.report.proofs.Whole.{refused, whole-text}
 use Rattle.report.proofs.report.Statement.{statement}
 use Rattle.report.proofs.report.Tie as tie
-
-returns : tie.Need-returns
-returns c = search (no-room, needs)
 
 returns-2 : tie.Need-returns-2
 returns-2 c = search (whole-text, needs)
@@ -14,7 +13,7 @@ pub report-spec : {M : Type 1} → statement M
 report-spec =
     tie.close
     (tie.spec
-    returns
+    (λ c. refused _ _ 0 (denied (λ g. omega arith)))
     (λ c. search needs)
     (λ c κs. search needs)
     (λ c κs. search needs)

@@ -6,9 +6,9 @@ from typing import NamedTuple
 
 CRATES = pathlib.Path(__file__).resolve().parents[1] / "crates"
 
-# `Rattle.NAME.specs.File.{..}`, `Rattle.NAME.specs.File.{..}` for the crate itself, or `.. as A`; a type of the code is declared.Type, its cases
-# declared.Type.the-variants
-USE = re.compile(r"^(?:ghost )?use Rattle·(\w+?)(?:·specs)?\.specs\.(declared\.)?(\w+?)(?:\.the-variants)?(?:\.\{([^}]*)\}| as (\w+));?$", re.MULTILINE)
+# `Rattle.NAME.specs.File.{..}`, `Rattle.NAME.specs.File.{..}` for the crate itself, or `.. as A`; a type of the code is declared.Type, or
+# declared.module.Type, its cases declared.Type.the-variants
+USE = re.compile(r"^(?:ghost )?use Rattle·(\w+?)(?:·specs)?\.specs\.(declared\.(?:[a-z]\w*\.)*)?(\w+?)(?:\.the-variants)?(?:\.\{([^}]*)\}| as (\w+));?$", re.MULTILINE)
 SIGNATURE = re.compile(r"(?:(?:abbrev|unfoldable|pub) )*(?:(?:record|data) )?(\S+)")
 BEGINS = ("pub ", "abbrev ", "unfoldable ", "record ", "data ")
 DECLARED = re.compile(r"^(?:pub )?(?:enum|struct) (\w+) \{\n.*?^\}", re.MULTILINE | re.DOTALL)

@@ -1,14 +1,8 @@
--- The mender's laws, the turns of its code, and its theorems.
-pub mod Windows
+-- The mender's laws, what its loops do, and its theorems; those of `rows` and `values` stand in the folders of these modules.
 pub mod Fitting
-pub mod Turns
+pub mod Loops
 pub mod Finding
 pub mod OneError
-pub mod Rooting
 pub mod Repairing
 pub mod Locating
 pub mod Theorems
-pub mod Rows
-pub mod RowTurns
-pub mod Fractions
-pub mod Valuing

@@ -3,7 +3,7 @@ use mathlib.Core.Path.{_≡_, sym, ap, _∙_, subst}
 use mathlib.Core.Bool.{Bool, true, false}
 use mathlib.Core.List.{List}
 use Prim.Native.Nat.{ℕ, min, _+_, _-_, _/_, _%_, _<_, _≤_}
-use native.Mathlib.Nat.{mod-eq-of-lt, le-of-eq}
+use native.Mathlib.Nat.{mod-eq-of-lt}
 use native.Mathlib.Omega.{arith}
 use lib.ListN.{getD}
 use Rattle.refusal.specs.Promise.{Tells}
@@ -15,28 +15,24 @@ use Rattle.code.specs.declared.Eleven.{Eleven}
 use Rattle.code.specs.Held.{eleven}
 use Rattle.code.specs.Inside.{PowerSums}
 use Rattle.code.specs.Word.{listed}
-use Rattle.code.proofs.Words.{listed-long, listed-get, characters-below}
+use Rattle.code.proofs.Words.{listed-long, listed-get}
 use Rattle.code.proofs.Holding.{eleven-first}
 use Rattle.mender.specs.declared.Mended.{Mended}
-use Rattle.mender.specs.declared.Pattern.{Pattern}
+use Rattle.mender.specs.declared.values.Pattern.{Pattern}
 use Rattle.mender.specs.Mender.{MendsTo}
-use Rattle.mender.specs.Inside.{mixed, coef, Small, Agree, Nothing}
+use Rattle.mender.specs.Inside.{mixed, coef, Agree, Nothing}
 use Rattle.mender.specs.Rows.{SumsIn, RowsHold, RowsFrom, FirstRow, Coefficients}
-use Rattle.mender.specs.Found.{Patterned, sixth}
-use Rattle.mender.specs.Values.{Kills}
+use Rattle.mender.specs.Found.{sixth}
+use Rattle.mender.specs.Values.{Patterned, Kills}
 use Rattle.mender.proofs.Fitting.{Least, some-row}
 use Rattle.mender.proofs.Finding.{Told, found-none, found-no-sixth, found-heavy, found-other, found-word}
-use Rattle.mender.proofs.Rows.{rows-none, rows-first}
+use Rattle.mender.proofs.rows.Elimination.{rows-none, rows-first}
 
 sums-in : (h : Eleven) → SumsIn (h .first) (eleven h)
 sums-in h =
     record {
       sum-at = λ k l. sym (mod-eq-of-lt (lane-lt (h .first) k)) ∙ ap (λ (n : ℕ). n % 64) (sym (eleven-first h k l));
     }
-
-pub coefficients-small : (x : ℕ) (p : List ℕ) → Coefficients x p → Small p
-coefficients-small x p c =
-    record { small = characters-below p 6 (le-of-eq (c .wide)) (λ k h. subst (λ (v : ℕ). v < 64) (sym (c .entry k h)) (lane-lt x (5 + k))) }
 
 module _ (h : Eleven) (c e : ℕ) (x : List ℕ) (r : ℕ) (out : Mended) (b : (c ≤ 11) × (e ≤ c / 2)) (rows : RowsFrom (h .first) e (min (c - c / 2) 5) x) (f : FirstRow x r) where
   told : Told c e (min (c - c / 2) 5)

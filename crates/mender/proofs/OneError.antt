@@ -22,10 +22,10 @@ use Rattle.code.specs.Held.{eleven}
 use Rattle.code.proofs.Words.{zero-get}
 use Rattle.code.proofs.Holding.{eleven-first, eleven-last, eleven-characters}
 use Rattle.code.proofs.Sums.{powerSum-set}
-use Rattle.mender.proofs.Finding.{true-false}
-use Rattle.mender.specs.Mender.{Fits}
 use Rattle.mender.specs.declared.Single.{Single}
+use Rattle.mender.specs.Mender.{Fits}
 use Rattle.mender.specs.Found.{lone, OneError}
+use Rattle.mender.proofs.Finding.{true-false}
 
 -- ---- the word with one character
 

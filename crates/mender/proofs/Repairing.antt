@@ -3,10 +3,9 @@ use mathlib.Core.Path.{_≡_, refl, sym, ap, ap₂, _∙_, subst}
 use mathlib.Core.Bool.{Bool, true, false}
 use mathlib.Core.Logic.{⊎-elim}
 use mathlib.Core.List.{List}
-use Prim.Native.Nat.{ℕ, zero, min, _+_, _*_, _/_, _%_, _<_, _≤_}
+use Prim.Native.Nat.{ℕ, min, _+_, _*_, _/_, _%_, _<_, _≤_}
 use native.Mathlib.Nat.{le-trans, le-of-eq}
 use native.Mathlib.Omega.{arith}
-use borrow.Author.Count.{below-more}
 use lib.ListN.{getD, length, replicate, set, length-set, List·getD-eq-default}
 use lib.Seq.{ext-getD, getD-set-same, getD-set-other}
 use lib.Bits.{bitXor}
@@ -35,18 +34,8 @@ use Rattle.mender.specs.Found.{lone, OneError, ElementsTo, Clear, Repair
 use Rattle.mender.proofs.OneError.{lone-long, lone-here, lone-other, lone-weight, weight-nothing, sums-nothing}
 use Rattle.mender.proofs.Finding.{true-false, found-none, none-near, one-near, nearest-none, mended}
 
--- ---- whether the first c sums are elements
+-- ---- sums that are no elements are those of no word
 
-pub elements-over : (s : List ℕ) (c k : ℕ) → k < c → 63 < getD s k 0 → Tells (ElementsTo s c) false
-elements-over s c k h o = tells-no (λ t. let l = t k h in omega arith)
-
-pub elements-all : (s : List ℕ) (c k : ℕ) → c ≤ k → ElementsTo s k → Tells (ElementsTo s c) true
-elements-all s c k h t = tells-yes (λ i l. t i (omega arith))
-
-pub elements-again : (s : List ℕ) (k : ℕ) → ElementsTo s k → getD s k 0 ≤ 63 → ElementsTo s (k + 1)
-elements-again s k t h = below-more (λ i. getD s i 0 < 64) k t (omega arith)
-
--- sums that are no elements are those of no word
 pub not-elements : (s : List ℕ) (c e : ℕ) (m : Mended) (b : Bool) → Tells (ElementsTo s c) b → b ≡ false → Nothing m → MendsTo s c e m
 not-elements s c e m b t q n =
     found-none s c e m n (λ w f. t .fails q (λ k l. subst (λ (v : ℕ). v < 64) (sym (f .sums k l)) (powerSum-lt (58 + k) w)))

@@ -1,8 +1,8 @@
--- What the mender's functions on packed sums promise: no error and one told from the sums, the values at the roots alone, the repaired word, the sixth window.
+-- What the mender's functions on packed sums promise: no error and one told from the sums, the repaired word, the sixth window.
 use mathlib.Core.Path.{_≡_}
 use mathlib.Core.Bool.{true, false}
 use mathlib.Core.List.{List}
-use Prim.Native.Nat.{ℕ, _+_, _/_, _%_, _^_, _<_, _≤_}
+use Prim.Native.Nat.{ℕ, _+_, _<_}
 use lib.ListN.{getD, replicate, set}
 use Rattle.field.specs.Field.{product, total}
 use Rattle.lanes.specs.Lanes.{lane}
@@ -11,9 +11,7 @@ use Rattle.code.specs.Word.{added}
 use Rattle.code.specs.Inside.{Ends}
 use Rattle.mender.specs.declared.Mended.{Mended}
 use Rattle.mender.specs.declared.Single.{Single}
-use Rattle.mender.specs.declared.Pattern.{Pattern}
 use Rattle.mender.specs.Mender.{Fits}
-use Rattle.mender.specs.Inside.{ValuedFrom}
 
 -- 63 zeros with one character set
 unfoldable pub lone : ℕ → ℕ → List ℕ
@@ -24,19 +22,6 @@ pub record OneError (s : List ℕ) (o : Single) : Type 0 where
   pub inside : o .found ≡ true → o .address < 63
   pub some : o .found ≡ true → 0 < o .value
   pub fits : o .found ≡ true → Fits s 11 1 (lone (o .address) (o .value))
-
--- r is the first place from `from` on whose bit is set, of 63; or none is, and r is 63
-pub record RootFrom (roots from r : ℕ) : Type 0 where
-  pub least : from ≤ r
-  pub most : r ≤ 63
-  pub none : (l : ℕ) → from ≤ l → l < r → roots / 2 ^ l % 2 ≡ 0
-  pub here : r < 63 → roots / 2 ^ r % 2 ≡ 1
-
--- the characters are the values at their places, counted, with the first and the last that is not 0
-pub record Patterned (p s : List ℕ) (r : Pattern) : Type 0 where
-  pub valued : ValuedFrom p s (r .word) 63
-  pub weighs : r .weight ≡ weight (r .word)
-  pub ends : Ends (replicate 63 0) (r .word) (r .first) (r .last)
 
 -- the first c of eleven sums are elements
 abbrev pub ElementsTo : List ℕ → ℕ → Type 0

@@ -3,10 +3,10 @@ use mathlib.Core.Path.{_≡_}
 use mathlib.Core.Bool.{false, cond}
 use mathlib.Core.Logic.{_⊎_}
 use mathlib.Core.List.{List, []}
-use Prim.Native.Nat.{ℕ, _+_, _-_, _<_, _≤_}
+use Prim.Native.Nat.{ℕ, _+_, _-_, _<_}
 use lib.Dec.{eqb}
 use lib.ListN.{length, getD, replicate}
-use Rattle.field.specs.Field.{sum, product, α, power, total}
+use Rattle.field.specs.Field.{product, α, power, total}
 use Rattle.field.specs.Inside.{inverse}
 use Rattle.polynomial.specs.Polynomial.{polyAt, over}
 use Rattle.mender.specs.declared.Mended.{Mended}
@@ -28,14 +28,6 @@ pub record Degree (e : ℕ) (q : ℕ → ℕ) : Type 0 where
   pub none : (k : ℕ) → e < k → q k ≡ 0
   pub small : (k : ℕ) → q k < 64
 
--- the first n of six unit vectors
-pub record Units (n : ℕ) (m : List (List ℕ)) : Type 0 where
-  pub long : length m ≡ 6
-  pub wide : (i : ℕ) → i < 6 → length (getD m i []) ≡ 6
-  pub one : (i : ℕ) → i < n → at m i i ≡ 1
-  pub none : (i : ℕ) → n ≤ i → at m i i ≡ 0
-  pub other : (i k : ℕ) → (i ≡ k → ⊥) → at m i k ≡ 0
-
 -- the rows after n windows
 pub record Spanned (s : List ℕ) (e n : ℕ) (m : List (List ℕ)) : Type 0 where
   pub long : length m ≡ 6
@@ -50,18 +42,6 @@ pub record Spanned (s : List ℕ) (e n : ℕ) (m : List (List ℕ)) : Type 0 whe
   -- a row is 0, or has 1 at its own degree
   pub own : (i : ℕ) → ((k : ℕ) → at m i k ≡ 0) ⊎ (at m i i ≡ 1)
   pub small : (i k : ℕ) → at m i k < 64
-
--- each row and the multiple of row p with which it combines window n to 0
-pub record Stepped (s : List ℕ) (n p : ℕ) (m r : List (List ℕ)) : Type 0 where
-  pub long : length r ≡ 6
-  pub wide : (i : ℕ) → i < 6 → length (getD r i []) ≡ 6
-  pub pivot : 0 < mixed (at m p) s n
-  pub lowest : (i : ℕ) → i < p → mixed (at m i) s n ≡ 0
-  pub row : (i k : ℕ) → at r i k ≡ sum (at m i k) (product (product (mixed (at m i) s n) (inverse (mixed (at m p) s n))) (at m p k))
-
--- coefficients that are elements
-pub record Small (p : List ℕ) : Type 0 where
-  pub small : (k : ℕ) → getD p k 0 < 64
 
 -- the value at the place x, where p is a locator: 0 where x is no root of p, and where it is more than one
 unfoldable pub valueOf : List ℕ → List ℕ → ℕ → ℕ

@@ -11,11 +11,18 @@ use Rattle.lanes.specs.Lanes.{lane}
 use Rattle.polynomial.specs.Sums.{weight}
 use Rattle.code.specs.Word.{nowhere}
 use Rattle.code.specs.Inside.{Ends}
-use Rattle.mender.specs.declared.Ahead.{Ahead}
-use Rattle.mender.specs.declared.Pattern.{Pattern}
-use Rattle.mender.specs.Inside.{mixed, coef}
+use Rattle.mender.specs.declared.values.Ahead.{Ahead}
+use Rattle.mender.specs.declared.values.Pattern.{Pattern}
+use Rattle.mender.specs.Inside.{mixed, coef, ValuedFrom}
 
 -- ---- the roots from a place on
+
+-- r is the first place from `from` on whose bit is set, of 63; or none is, and r is 63
+pub record RootFrom (roots from r : ℕ) : Type 0 where
+  pub least : from ≤ r
+  pub most : r ≤ 63
+  pub none : (l : ℕ) → from ≤ l → l < r → roots / 2 ^ l % 2 ≡ 0
+  pub here : r < 63 → roots / 2 ^ r % 2 ≡ 1
 
 -- the first of n bits from l on that is set, or the one after them
 unfoldable pub firstSet : ℕ → ℕ → ℕ → ℕ
@@ -126,3 +133,9 @@ pub record Placed (roots f n : ℕ) (r : Pattern) : Type 0 where
 pub record Kills (p s : List ℕ) (n : ℕ) : Type 0 where
   pub few : n ≤ 5
   pub window : (j : ℕ) → j < n → mixed (coef p) s j ≡ 0
+
+-- the characters are the values at their places, counted, with the first and the last that is not 0
+pub record Patterned (p s : List ℕ) (r : Pattern) : Type 0 where
+  pub valued : ValuedFrom p s (r .word) 63
+  pub weighs : r .weight ≡ weight (r .word)
+  pub ends : Ends (replicate 63 0) (r .word) (r .first) (r .last)

@@ -14,7 +14,7 @@ use Rattle.line.specs.Promises.{Within}
 use Rattle.ring.specs.Ring.{placed, Start}
 use Rattle.ring.specs.Inside.{seen}
 use Rattle.ring.proofs.Placing.{kept, seen-placed, seen-lt, seen-zero}
-use Rattle.ring.proofs.Marks.{marks-far, marks-forward-far, marks-most}
+use Rattle.ring.proofs.marks.Marks.{marks-far, marks-forward-far, marks-most}
 
 -- ---- a word w near a line, and its word at start j near another
 

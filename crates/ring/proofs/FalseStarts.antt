@@ -16,7 +16,7 @@ use Rattle.ring.specs.Ring.{placed, Those, end, listed, not-listed, List
 use Rattle.ring.specs.Inside.{seen}
 use Rattle.ring.specs.FalseStarts.{countedFrom, falseStarts, isIn, rising, recordedStarts}
 use Rattle.ring.proofs.Placing.{seen-lt, seen-forward, seen-turning, seen-returning, seen-backward, seen-cases}
-use Rattle.ring.proofs.Marks.{with-at, markDistances, mark-distance}
+use Rattle.ring.proofs.marks.Marks.{with-at, markDistances, mark-distance}
 use Rattle.ring.proofs.Alone.{marks-of-start, start-of-marks}
 use Rattle.ring.proofs.Those.{those-same}
 

@@ -1,7 +1,6 @@
--- The laws of starts, of recordings, of the marks at them and of false starts, the turns of the code, the ways out of listing and reading, where a word was changed, and the theorems.
+-- The laws of starts, of recordings and of false starts, the turns of the code, the ways out of listing and reading, where a word was changed, and the theorems; those of the marks stand in the folder of `marks`.
 pub mod Placing
 pub mod Recording
-pub mod Marks
 pub mod Alone
 pub mod Those
 pub mod FalseStarts

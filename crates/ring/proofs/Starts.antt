@@ -19,7 +19,7 @@ use Rattle.mender.specs.Mender.{Word}
 use Rattle.ring.specs.Ring.{placed, Start}
 use Rattle.ring.specs.Inside.{seen, marksAt, MarkSums, Mendable}
 use Rattle.ring.proofs.Placing.{kept, placed-again}
-use Rattle.ring.proofs.Marks.{marks-at-long, marks-at-characters, marks-placed}
+use Rattle.ring.proofs.marks.Marks.{marks-at-long, marks-at-characters, marks-placed}
 
 -- ---- a word of the ring is a line at start k where it has the power sums of the marks there
 

@@ -30,7 +30,7 @@ use Rattle.ring.specs.Promises.{listingNumbers, readingNumbers, listingT
 use Rattle.ring.specs.Inside.{seen}
 use Rattle.ring.proofs.Placing.{kept, placed-forward, placed-backward, seen-placed, seen-zero, seen-forward, seen-backward}
 use Rattle.ring.proofs.Recording.{recorded-long, recorded-characters, placed-recorded, recorded-only, recorded-apart}
-use Rattle.ring.proofs.Marks.{markDistances, mark-distance}
+use Rattle.ring.proofs.marks.Marks.{markDistances, mark-distance}
 use Rattle.ring.proofs.Alone.{starts-near, same-start, same-start-one-way, marks-of-start, start-of-marks}
 use Rattle.ring.proofs.Those.{At, one-those, those-entry, those-rise, those-all, one-of-those, all-those, parts}
 use Rattle.ring.proofs.Ways.{list-written, refused, read}

@@ -23,7 +23,8 @@ use Rattle.ring.specs.Ring.{placed, Start, Those, end, listed, not-liste
 use Rattle.ring.specs.Promises.{Lists}
 use Rattle.ring.specs.Inside.{Listable, Mendable, placeOf}
 use Rattle.ring.specs.declared.Undecided.{Undecided}
-use Rattle.ring.specs.Filter.{marksOf, MarksAtAll, NoErrorsAt, Decides}
+use Rattle.ring.specs.Marks.{marksOf, MarksAtAll}
+use Rattle.ring.specs.Filter.{NoErrorsAt, Decides}
 use Rattle.ring.proofs.Placing.{kept, placed-forward, placed-backward}
 use Rattle.ring.proofs.Those.{moved}
 use Rattle.ring.proofs.Starts.{start-told}

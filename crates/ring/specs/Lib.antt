@@ -4,4 +4,5 @@ pub mod Recording
 pub mod FalseStarts
 pub mod Promises
 pub mod Inside
+pub mod Marks
 pub mod Filter

@@ -3,7 +3,7 @@ use borrow.Author.Needs.{needs}
 use Prim.Native.Nat.{_≤_, _-_}
 use borrow.Author.Count.{below-none}
 use Rattle.mender.specs.Inside.{Agree}
-use Rattle.mender.proofs.Turns.{agree-more, agree-not, agree-all}
+use Rattle.mender.proofs.Loops.{agree-more, agree-not, agree-all}
 use Rattle.mender.proofs.agree.Statement.{statement}
 use Rattle.mender.proofs.agree.Tie as tie
 

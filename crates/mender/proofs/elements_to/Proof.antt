@@ -3,7 +3,7 @@ use borrow.Author.Needs.{needs}
 use Prim.Native.Nat.{_≤_, _-_}
 use borrow.Author.Count.{below-none}
 use Rattle.mender.specs.Found.{ElementsTo}
-use Rattle.mender.proofs.Repairing.{elements-over, elements-again, elements-all}
+use Rattle.mender.proofs.Loops.{elements-over, elements-again, elements-all}
 use Rattle.mender.proofs.elements_to.Statement.{statement}
 use Rattle.mender.proofs.elements_to.Tie as tie
 

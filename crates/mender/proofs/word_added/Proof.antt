@@ -1,7 +1,7 @@
 -- `mender::word_added` meets its contract: the characters passed so far are added.
 use borrow.Author.Needs.{needs}
 use Prim.Native.Nat.{_≤_, _-_}
-use Rattle.mender.proofs.Turns.{SummedTo, summed-none, summed-second, summed-all}
+use Rattle.mender.proofs.Loops.{SummedTo, summed-none, summed-second, summed-all}
 use Rattle.mender.proofs.word_added.Statement.{statement}
 use Rattle.mender.proofs.word_added.Tie as tie
 

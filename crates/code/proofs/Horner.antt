@@ -3,14 +3,14 @@ use mathlib.Core.Path.{_≡_, refl, sym, ap, ap₂, _∙_}
 use mathlib.Core.List.{List}
 use Prim.Native.Nat.{ℕ, zero, suc, _+_, _-_, _%_, _<_}
 use native.Mathlib.Omega.{arith}
-use lib.ListN.{getD}
+use lib.ListN.{length, getD}
 use Rattle.field.specs.Field.{sum, product, α, power, total}
 use Rattle.field.proofs.Laws
 use Rattle.field.proofs.Totals.{total-same, total-scaled}
 use Rattle.code.specs.Word.{listed}
-use Rattle.code.specs.Inside.{PowerSums, wordAt}
+use Rattle.code.specs.Inside.{PowerSums, wordAt, valueAt}
 use Rattle.code.proofs.Words.{listed-long, listed-get}
-use Rattle.code.proofs.Sums.{powerSum-at}
+use Rattle.code.proofs.Sums.{value-total, powerSum-at}
 
 -- over the first n characters
 unfoldable pub horner : ℕ → List ℕ → ℕ → ℕ
@@ -37,6 +37,10 @@ horner-total x w (suc n) =
 pub horner-word : (x : ℕ) (w : List ℕ) → horner x w 63 ≡ wordAt w x
 unfolding wordAt
 horner-word x w = horner-total x w 63
+
+-- over all characters
+pub horner-value : (x : ℕ) (w : List ℕ) → horner x w (length w) ≡ valueAt x w
+horner-value x w = horner-total x w (length w) ∙ sym (value-total x w)
 
 -- the power sums of any word
 pub horner-sums : (w : List ℕ) → PowerSums w (listed (λ k. horner (power α (58 + k)) w 63) 0 11)

@@ -11,7 +11,7 @@ use Rattle.field.proofs.Laws
 use Rattle.field.proofs.Totals.{total-same, total-sum, total-front, total-only, total-lt}
 use Rattle.polynomial.specs.Sums.{moment, Fresh, Places, Values}
 use Rattle.code.specs.Word.{Characters, powerSum, added}
-use Rattle.code.specs.Inside.{wordAt}
+use Rattle.code.specs.Inside.{wordAt, valueAt}
 use Rattle.code.proofs.Words.{added-get}
 
 -- ---- the places of n characters: the powers of α that fall to 1
@@ -136,10 +136,6 @@ powerSum-moment j w h =
     ∙ sym (moment-total j w (places 63) (h ∙ sym (places-long 63)))
 
 -- ---- as the value of a polynomial, the first character its highest coefficient
-
-unfoldable pub valueAt : ℕ → List ℕ → ℕ
-valueAt x [] = 0
-valueAt x (c ∷ cs) = sum (product c (power x (length cs))) (valueAt x cs)
 
 pub value-total : (x : ℕ) (w : List ℕ) → valueAt x w ≡ total (length w) (λ a. product (getD w a 0) (power x (length w - 1 - a)))
 unfolding valueAt

@@ -1,9 +1,9 @@
 -- What the inner functions of words promise: the power sums and the ends of a change to the crates above, the value at one x inside.
 use mathlib.Core.Path.{_≡_}
-use mathlib.Core.List.{List}
+use mathlib.Core.List.{List, [], _∷_}
 use Prim.Native.Nat.{ℕ, _+_, _-_, _<_}
 use lib.ListN.{length, getD}
-use Rattle.field.specs.Field.{product, power, total}
+use Rattle.field.specs.Field.{sum, product, power, total}
 use Rattle.code.specs.Word.{powerSum, firstChanged, lastChanged}
 
 -- the eleven power sums of a word, S_-5 first
@@ -19,3 +19,8 @@ pub record Ends (w l : List ℕ) (first last : ℕ) : Type 0 where
 -- the value at x of 63 characters as a polynomial, the first its highest coefficient
 unfoldable pub wordAt : List ℕ → ℕ → ℕ
 wordAt w x = total 63 (λ a. product (getD w a 0) (power x (62 - a)))
+
+-- the value at x of characters as a polynomial, the first its highest coefficient
+unfoldable pub valueAt : ℕ → List ℕ → ℕ
+valueAt x [] = 0
+valueAt x (c ∷ cs) = sum (product c (power x (length cs))) (valueAt x cs)

@@ -7,7 +7,8 @@ use lib.ListN.{length, take, drop, replicate, length-append, take-append-drop}
 use lib.Seq.{take-at, drop-at, length-take-le}
 use Rattle.field.specs.Field.{α, power}
 use Rattle.code.specs.Word.{Characters, Clean}
-use Rattle.code.proofs.Sums.{valueAt, powerSum-value}
+use Rattle.code.specs.Inside.{valueAt}
+use Rattle.code.proofs.Sums.{powerSum-value}
 use Rattle.code.proofs.Distances.{distance-take}
 use Rattle.code.proofs.Apart.{clean-near}
 use Rattle.encoder.specs.Division.{plus, divide, leftOf, remainder, GeneratorDivides}

@@ -11,7 +11,7 @@ use Rattle.field.specs.Field.{sum, timesX, shifted, product, α, power}
 use Rattle.field.proofs.Laws
 use Rattle.code.specs.Word.{Characters}
 use Rattle.code.proofs.Words.{cons}
-use Rattle.code.proofs.Sums.{valueAt}
+use Rattle.code.specs.Inside.{valueAt}
 use Rattle.encoder.specs.Division.{plus, scaled, timesRoot, rooted, generator, divideOnce, divide, leftOf, remainder}
 
 -- ---- the generator

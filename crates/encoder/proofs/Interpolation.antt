@@ -18,9 +18,9 @@ use Rattle.field.proofs.Totals.{total-same, total-sum, total-scaled, total-swap
 use Rattle.lanes.specs.Lanes.{pack, lane}
 use Rattle.lanes.proofs.Laws.{lane-lt, pack-same, lane-pack, xor-pack}
 use Rattle.code.specs.Word.{Characters, powerSum, listed}
-use Rattle.code.specs.Inside.{PowerSums}
+use Rattle.code.specs.Inside.{PowerSums, valueAt}
 use Rattle.code.proofs.Words.{listed-long, listed-get, characters-below}
-use Rattle.code.proofs.Sums.{valueAt, value-total, powerSum-value, powerSum-lt}
+use Rattle.code.proofs.Sums.{value-total, powerSum-value, powerSum-lt}
 use Rattle.encoder.specs.Division.{remainder}
 use Rattle.encoder.specs.Interpolation.{ChecksWith, eleven}
 use Rattle.encoder.proofs.Division.{value-append, value-zeros}

@@ -11,12 +11,12 @@ use Rattle.field.specs.Field.{product}
 use Rattle.field.proofs.Totals.{total-same}
 use Rattle.lanes.specs.Lanes.{lane}
 use Rattle.lanes.proofs.Laws.{lane-lt}
-use Rattle.code.specs.declared.Eleven.{Eleven}
-use Rattle.code.specs.Held.{eleven}
+use Rattle.sums.specs.declared.Eleven.{Eleven}
+use Rattle.sums.specs.Held.{eleven}
 use Rattle.code.specs.Inside.{PowerSums}
 use Rattle.code.specs.Word.{listed}
 use Rattle.code.proofs.Words.{listed-long, listed-get}
-use Rattle.code.proofs.Holding.{eleven-first}
+use Rattle.sums.proofs.Holding.{eleven-first}
 use Rattle.mender.specs.declared.Mended.{Mended}
 use Rattle.mender.specs.declared.values.Pattern.{Pattern}
 use Rattle.mender.specs.Mender.{MendsTo}

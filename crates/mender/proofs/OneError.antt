@@ -17,10 +17,10 @@ use Rattle.lanes.proofs.Laws.{lane-suc, pack-same, pack-equal, pack-lanes, pack
 use Rattle.places.specs.Logs.{LogOf}
 use Rattle.polynomial.specs.Sums.{weight, nonzero}
 use Rattle.code.specs.Word.{Characters, powerSum}
-use Rattle.code.specs.declared.Eleven.{Eleven}
-use Rattle.code.specs.Held.{eleven}
+use Rattle.sums.specs.declared.Eleven.{Eleven}
+use Rattle.sums.specs.Held.{eleven}
 use Rattle.code.proofs.Words.{zero-get}
-use Rattle.code.proofs.Holding.{eleven-first, eleven-last, eleven-characters}
+use Rattle.sums.proofs.Holding.{eleven-first, eleven-last, eleven-characters}
 use Rattle.code.proofs.Sums.{powerSum-set}
 use Rattle.mender.specs.declared.Single.{Single}
 use Rattle.mender.specs.Mender.{Fits}

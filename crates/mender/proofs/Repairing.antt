@@ -20,12 +20,12 @@ use Rattle.lanes.proofs.Laws.{lane-lt, lane-after, pack-same, pack-more, pack-l
 use Rattle.polynomial.specs.Sums.{weight}
 use Rattle.code.specs.Word.{Characters, added}
 use Rattle.code.specs.Inside.{PowerSums, Ends}
-use Rattle.code.specs.declared.Eleven.{Eleven}
-use Rattle.code.specs.Held.{eleven, lowered}
+use Rattle.sums.specs.declared.Eleven.{Eleven}
+use Rattle.sums.specs.Held.{eleven, lowered}
 use Rattle.code.proofs.Words.{zero-get, listed-get, length-added, added-get}
 use Rattle.code.proofs.Sums.{powerSum-lt}
 use Rattle.code.proofs.Changes.{ends-none, ends-one, ends-added}
-use Rattle.code.proofs.Holding.{eleven-first, eleven-last, eleven-long, eleven-characters}
+use Rattle.sums.proofs.Holding.{eleven-first, eleven-last, eleven-long, eleven-characters}
 use Rattle.mender.specs.declared.Mended.{Mended}
 use Rattle.mender.specs.declared.Single.{Single}
 use Rattle.mender.specs.Mender.{Fits, MendsTo, Mends, Nearest, HasSums}

@@ -5,15 +5,15 @@ ghost use Prim.Native.Nat.{min, _/_, _<_, _≤_};
 ghost use lib.ListN.{length};
 ghost use Rattle.refusal.specs.Promise.{Tells};
 ghost use Rattle.code.specs.Word.{added};
-ghost use Rattle.code.specs.Held.{eleven};
+ghost use Rattle.sums.specs.Held.{eleven};
 ghost use Rattle.mender.specs.Mender.{MendsTo, Mends, NearestWith, NearestClean};
 ghost use Rattle.mender.specs.Found.{lone, OneError, ElementsTo, Clear, Repairs, sixth};
 ghost use Rattle.mender.specs.Inside.{Agree, Nothing};
-use code::Eleven;
 use lanes::FIVE_LANES;
 use lanes::NINE_LANES;
 use lanes::SIX_LANES;
 use lanes::TEN_LANES;
+use sums::Eleven;
 
 mod rows;
 mod values;
@@ -47,7 +47,7 @@ pub fn mend(sums: [u8; 11], c: usize, e: usize) -> Mended
     if !elements_to(sums, most) {
         return nothing();
     }
-    find(code::packed(sums), most, errors)
+    find(sums::packed(sums), most, errors)
 }
 
 // The same from all eleven sums, packed.
@@ -64,13 +64,13 @@ pub fn nearest(word: &[u8], sums: [u8; 11], e: usize) -> Mended
     if word.len() != 63 {
         return nothing();
     }
-    if !code::in_range(word) {
+    if !eights::all_low(word) {
         return nothing();
     }
     if !elements_to(sums, 11) {
         return nothing();
     }
-    let differences = code::eleven_added(code::eleven_sums(word), code::packed(sums));
+    let differences = sums::eleven_added(sums::eleven_sums(word), sums::packed(sums));
     repaired(word, differences, least(e, 5))
 }
 
@@ -204,13 +204,13 @@ fn find(s: Eleven, c: usize, e: usize) -> Mended
             return nothing();
         }
     }
-    let sums = code::unpacked(s);
+    let sums = sums::unpacked(s);
     let pattern = values::values_at_roots(row, rows::coefficients(row), sums, least(c - c / 2, 5));
     if pattern.weight as usize > e {
         return nothing();
     }
     let w = pattern.word;
-    let t = code::power_sums(&w);
+    let t = sums::power_sums(&w);
     if !agree(sums, t, c) {
         return nothing();
     }

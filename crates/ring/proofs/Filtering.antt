@@ -16,9 +16,9 @@ use Rattle.planes.specs.Slices.{bitAt}
 use Rattle.regular.specs.Pivots.{elementIn, sumIn}
 use Rattle.regular.specs.Promises.{NoErrorsWhere}
 use Rattle.code.specs.Word.{added, listed}
-use Rattle.code.specs.declared.Eleven.{Eleven}
-use Rattle.code.specs.Held.{eleven}
-use Rattle.code.proofs.Holding.{eleven-long, eleven-characters}
+use Rattle.sums.specs.declared.Eleven.{Eleven}
+use Rattle.sums.specs.Held.{eleven}
+use Rattle.sums.proofs.Holding.{eleven-long, eleven-characters}
 use Rattle.code.proofs.Words.{listed-get, added-get}
 use Rattle.mender.specs.Mender.{Fits}
 use Rattle.mender.proofs.Finding.{true-false}

@@ -15,9 +15,9 @@ use Rattle.field.specs.Field.{sum, timesX, shifted, product, α, power}
 use Rattle.field.proofs.Laws
 use Rattle.regular.specs.Pivots.{elementIn}
 use Rattle.code.specs.Word.{listed}
-use Rattle.code.specs.declared.Eleven.{Eleven}
-use Rattle.code.specs.Held.{elevenAt}
-use Rattle.code.proofs.Holding.{eleven-long, eleven-get}
+use Rattle.sums.specs.declared.Eleven.{Eleven}
+use Rattle.sums.specs.Held.{elevenAt}
+use Rattle.sums.proofs.Holding.{eleven-long, eleven-get}
 use Rattle.code.proofs.Words.{listed-long, listed-get}
 use Rattle.ring.specs.declared.marks.AllMarks.{AllMarks}
 use Rattle.ring.specs.Inside.{MarkSums, TurnedBack}

@@ -5,8 +5,8 @@ use Prim.Native.Nat.{ℕ, _%_}
 use lib.Dec.{ltb}
 use lib.ListN.{getD}
 use Rattle.lanes.specs.Lanes.{lane}
-use Rattle.code.specs.declared.Eleven.{Eleven}
+use Rattle.sums.specs.declared.Eleven.{Eleven}
 use Rattle.code.specs.Word.{listed}
 
 -- number k of them, S_-5 first; of the last the low six bits count
 unfoldable pub elevenAt : Eleven → ℕ → ℕ

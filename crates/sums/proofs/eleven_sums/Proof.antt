@@ -1,10 +1,10 @@
--- `code::eleven_sums` meets its contract: S_0 is set between the other ten.
+-- `sums::eleven_sums` meets its contract: S_0 is set between the other ten.
 use borrow.Author.Needs.{needs}
-use Rattle.code.proofs.Holding.{sums-in-order}
+use Rattle.sums.proofs.Holding.{sums-in-order}
 use borrow.Author.Needs.{needs}
-use Rattle.code.proofs.Holding.{sums-in-order}
-use Rattle.code.proofs.eleven_sums.Statement.{statement}
-use Rattle.code.proofs.eleven_sums.Tie as tie
+use Rattle.sums.proofs.Holding.{sums-in-order}
+use Rattle.sums.proofs.eleven_sums.Statement.{statement}
+use Rattle.sums.proofs.eleven_sums.Tie as tie
 
 returns : tie.Need-returns
 returns c = search (sums-in-order, needs)

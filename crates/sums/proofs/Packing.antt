@@ -5,7 +5,7 @@ use mathlib.Core.List.{List, [], _∷_}
 use Prim.Native.Nat.{ℕ, zero, suc, _+_, _-_, _*_, _/_, _%_, _<_, _≤_}
 use native.Mathlib.Nat.{add-zero, zero-add}
 use native.Mathlib.Omega.{arith}
-use lib.ListN.{length, getD, set, length-set}
+use lib.ListN.{length, getD, set, length-set, List·getD-eq-default}
 use lib.Seq.{getD-set-same, getD-set-other}
 use borrow.Author.Count.{below-none, below-more}
 use Rattle.numbers.proofs.Cases.{le-or-lt, same-or-not}
@@ -16,11 +16,11 @@ use Rattle.lanes.specs.Lanes.{pack, lane}
 use Rattle.lanes.proofs.Laws as Lanes
 use Rattle.terms.specs.Terms.{point, term}
 use Rattle.points.specs.Value.{value}
 use Rattle.code.specs.Word.{powerSum}
-use Rattle.code.specs.Inside.{PowerSums}
-use Rattle.code.specs.declared.PackedSums.{PackedSums}
-use Rattle.code.specs.Packed.{Packed, Filled}
-use Rattle.code.proofs.Sums.{valueAt, powerSum-lt, powerSum-same, powerSum-value}
+use Rattle.code.specs.Inside.{PowerSums, valueAt}
+use Rattle.sums.specs.declared.PackedSums.{PackedSums}
+use Rattle.sums.specs.Packed.{Packed, Filled}
+use Rattle.code.proofs.Sums.{powerSum-lt, powerSum-same, powerSum-value}
 
 -- ---- the values at the ten points
 
@@ -54,6 +54,9 @@ middle-sum w =
     multiple n = omega arith
 
 -- ---- a word filled up to 63 characters
+
+pub past-end : (w : List ℕ) (a : ℕ) → length w ≤ a → 0 ≡ getD w a 0
+past-end w a h = sym (List·getD-eq-default w 0 h)
 
 pub record FilledTo (w v : List ℕ) (a : ℕ) : Type 0 where
   pub most : a ≤ 63

@@ -1,9 +1,9 @@
--- `code::power_sums` meets its contract: the loop keeps that the sums passed are in place, and S_0 in its own.
+-- `sums::power_sums` meets its contract: the loop keeps that the sums passed are in place, and S_0 in its own.
 use Prim.Native.Nat.{_-_}
 use borrow.Author.Needs.{needs}
-use Rattle.code.proofs.Packing.{UnpackedTo, unpacked-none, unpacked-again, unpacked-all}
-use Rattle.code.proofs.power_sums.Statement.{statement}
-use Rattle.code.proofs.power_sums.Tie as tie
+use Rattle.sums.proofs.Packing.{UnpackedTo, unpacked-none, unpacked-again, unpacked-all}
+use Rattle.sums.proofs.power_sums.Statement.{statement}
+use Rattle.sums.proofs.power_sums.Tie as tie
 
 abbrev Inv-loop : tie.InvT-loop
 Inv-loop word p₀ sums₀ k₀ p sums k = UnpackedTo word sums p k

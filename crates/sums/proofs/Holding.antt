@@ -14,14 +14,14 @@ use lib.Seq.{getD-set-same, getD-set-other, ext-getD}
 use Rattle.field.specs.Field.{sum}
 use Rattle.lanes.specs.Lanes.{pack, lane}
 use Rattle.lanes.proofs.Laws.{lane-lt, lane-zero, lane-suc, pack-same, pack-lt, lane-pack, lane-xor, lane-after, pack-lanes, pack-last, pack-split}
-use Rattle.code.specs.declared.Eleven.{Eleven}
-use Rattle.code.specs.declared.PackedSums.{PackedSums}
+use Rattle.sums.specs.declared.Eleven.{Eleven}
+use Rattle.sums.specs.declared.PackedSums.{PackedSums}
 use Rattle.code.specs.Word.{Characters, powerSum, added}
-use Rattle.code.specs.Packed.{Packed}
-use Rattle.code.specs.Held.{elevenAt, eleven, lowered}
+use Rattle.sums.specs.Packed.{Packed}
+use Rattle.sums.specs.Held.{elevenAt, eleven, lowered}
 use Rattle.code.specs.Inside.{PowerSums}
 use Rattle.code.proofs.Sums.{powerSum-lt}
 use Rattle.code.proofs.Words.{characters-below, listed-long, listed-get, length-added, added-get}
 
 -- ---- what is held
 

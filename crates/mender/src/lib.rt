@@ -13,7 +13,7 @@ use lanes::FIVE_LANES;
 use lanes::NINE_LANES;
 use lanes::SIX_LANES;
 use lanes::TEN_LANES;
-use sums::Eleven;
+use sums::Sums;
 
 mod rows;
 mod values;
@@ -51,7 +51,7 @@ pub fn mend(sums: [u8; 11], c: usize, e: usize) -> Mended
 }
 
 // The same from all eleven sums, packed.
-pub fn mend_eleven(sums: Eleven, e: usize) -> Mended
+pub fn mend_eleven(sums: Sums, e: usize) -> Mended
     ensures { λ r. ⌜ Mends (eleven sums) 11 e r ⌝ }
 {
     find(sums, 11, least(e, 5))
@@ -75,7 +75,7 @@ pub fn nearest(word: &[u8], sums: [u8; 11], e: usize) -> Mended
 }
 
 // A word without the at most e errors that have these sums. No error and one are told at once, since nearly all words have no more.
-fn repaired(word: &[u8], sums: Eleven, e: usize) -> Mended
+fn repaired(word: &[u8], sums: Sums, e: usize) -> Mended
     requires { ⌜ length (now word) ≡ 63 ⌝ }
     requires { ⌜ e ≤ 5 ⌝ }
     ensures { λ r. ⌜ Repairs (eleven sums) (now (word .entry)) e r ⌝ }
@@ -120,7 +120,7 @@ fn repaired(word: &[u8], sums: Eleven, e: usize) -> Mended
 }
 
 // Whether eleven sums are all 0.
-fn all_zero(sums: Eleven) -> bool
+fn all_zero(sums: Sums) -> bool
     ensures { λ r. ⌜ Tells (Clear (eleven sums)) r ⌝ }
 {
     if sums.first % TEN_LANES != 0 {
@@ -189,7 +189,7 @@ fn nothing() -> Mended
 // The word of at most e errors with these c sums. The locator that five windows leave is held against a sixth where there is one, which nearly
 // every locator of too many errors fails; the pattern found is weighed, and its sums are taken again: what passes is the word, and where one
 // fails there is none.
-fn find(s: Eleven, c: usize, e: usize) -> Mended
+fn find(s: Sums, c: usize, e: usize) -> Mended
     requires { ⌜ (c ≤ 11) × (e ≤ c / 2) ⌝ }
     ensures { λ r. ⌜ MendsTo (eleven s) c e r ⌝ }
 {
@@ -224,7 +224,7 @@ fn find(s: Eleven, c: usize, e: usize) -> Mended
 }
 
 // Whether a row combines the sixth window to 0.
-fn sixth_window(x: u64, s: Eleven) -> bool
+fn sixth_window(x: u64, s: Sums) -> bool
     ensures { λ r. ⌜ Tells (sixth x (eleven s) ≡ 0) r ⌝ }
 {
     let window = s.first / FIVE_LANES % FIVE_LANES + (s.last % 64) as u64 * FIVE_LANES;
@@ -264,7 +264,7 @@ fn word_added(word: &[u8], pattern: [u8; 63]) -> [u8; 63]
 }
 
 // The one error whose sums these are, if it is one: then each sum is the one before it times the place, and S_0 is the value.
-fn lone_error(s: Eleven) -> Single
+fn lone_error(s: Sums) -> Single
     ensures { λ r. ⌜ OneError (eleven s) r ⌝ }
 {
     let value = (s.first / FIVE_LANES % 64) as u8;

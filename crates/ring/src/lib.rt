@@ -10,7 +10,7 @@ ghost use Rattle.ring.specs.Promises.{listingNumbers, readingNumbers, Li
 ghost use Rattle.ring.specs.Inside.{Listable, Mendable, placeOf};
 ghost use Rattle.ring.specs.Filter.{MayList, NoErrorsAt, Decides};
 use refusal::Refusal;
-use sums::Eleven;
+use sums::Sums;
 
 mod marks;
 
@@ -111,7 +111,7 @@ fn list_starts(ring: &[u8], radius: u8, output: &mut [u8]) -> u8
     let mut count: u8 = 0;
     let mut start: u8 = 0;
     while start < 126 {
-        let here = Eleven {
+        let here = Sums {
             first: firsts[start as usize],
             last: lasts[start as usize],
         };
@@ -134,7 +134,7 @@ fn no_starts() -> [u8; 126]
 }
 
 // The starts that may be listed, from the ring's power sums.
-fn undecided_starts(sums: Eleven) -> Undecided
+fn undecided_starts(sums: Sums) -> Undecided
     ensures { λ r. ⌜ Decides (eleven sums) r ⌝ }
 {
     let entries = sums::unpacked(sums);
@@ -162,7 +162,7 @@ fn is_undecided(undecided: Undecided, start: usize) -> bool
 }
 
 // Whether some errors, as many as the radius at most, have the power sums of a start.
-fn listable(undecided: Undecided, start: u8, sums: Eleven, radius: u8) -> bool
+fn listable(undecided: Undecided, start: u8, sums: Sums, radius: u8) -> bool
     requires { ⌜ start < 126 ⌝ }
     requires { ⌜ NoErrorsAt undecided start (eleven sums) ⌝ }
     ensures { λ r. ⌜ Tells (Mendable (eleven sums) radius) r ⌝ }
@@ -174,7 +174,7 @@ fn listable(undecided: Undecided, start: u8, sums: Eleven, radius: u8) -> bool
 }
 
 // Whether some errors, as many as the radius at most, have these power sums: the radius counts up to 5.
-fn mendable(sums: Eleven, radius: u8) -> bool
+fn mendable(sums: Sums, radius: u8) -> bool
     ensures { λ r. ⌜ Tells (Mendable (eleven sums) radius) r ⌝ }
 {
     let errors = mender::mend_eleven(sums, radius as usize);

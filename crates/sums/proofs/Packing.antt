@@ -1,26 +1,26 @@
--- The packed power sums: the values at the ten points, S_0, a word filled up to 63 characters, and the turns of the code.
-use mathlib.Core.Path.{_≡_, refl, sym, ap, _∙_}
+-- The power sums of a word packed: the values at the ten points and S_0, as the tables give them and in their order.
+use mathlib.Core.Path.{_≡_, refl, sym, ap, ap₂, _∙_, subst}
 use mathlib.Core.Logic.{⊎-elim}
 use mathlib.Core.List.{List, [], _∷_}
-use Prim.Native.Nat.{ℕ, zero, suc, _+_, _-_, _*_, _/_, _%_, _<_, _≤_}
-use native.Mathlib.Nat.{add-zero, zero-add}
+use Prim.Native.Nat.{ℕ, zero, suc, _+_, _-_, _*_, _/_, _%_, _<_}
+use native.Mathlib.Nat.{eq-or-lt-of-le, le-of-suc-le-suc, mod-eq-of-lt}
 use native.Mathlib.Omega.{arith}
-use lib.ListN.{length, getD, set, length-set, List·getD-eq-default}
-use lib.Seq.{getD-set-same, getD-set-other}
-use borrow.Author.Count.{below-none, below-more}
-use Rattle.numbers.proofs.Cases.{le-or-lt, same-or-not}
+use lib.ListN.{length, getD}
 use Rattle.field.specs.Field.{sum, product, α, power, total}
 use Rattle.field.proofs.Laws
 use Rattle.field.proofs.Totals.{total-same}
 use Rattle.lanes.specs.Lanes.{pack, lane}
-use Rattle.lanes.proofs.Laws as Lanes
+use Rattle.lanes.proofs.Laws.{pack-same, lane-pack, lane-after, pack-lanes, pack-last, pack-split}
 use Rattle.terms.specs.Terms.{point, term}
 use Rattle.points.specs.Value.{value}
 use Rattle.code.specs.Word.{powerSum}
 use Rattle.code.specs.Inside.{PowerSums, valueAt}
-use Rattle.sums.specs.declared.PackedSums.{PackedSums}
-use Rattle.sums.specs.Packed.{Packed, Filled}
 use Rattle.code.proofs.Sums.{powerSum-lt, powerSum-same, powerSum-value}
+use Rattle.sums.specs.declared.Sums.{Sums}
+use Rattle.sums.specs.declared.PackedSums.{PackedSums}
+use Rattle.sums.specs.Held.{eleven}
+use Rattle.sums.specs.Packed.{Packed, Filled}
+use Rattle.sums.proofs.Holding.{eleven-long, eleven-first, eleven-last}
 
 -- ---- the values at the ten points
 
@@ -53,104 +53,77 @@ middle-sum w =
     multiple : (n : ℕ) → 0 ≡ 63 * n % 63
     multiple n = omega arith
 
--- ---- a word filled up to 63 characters
-
-pub past-end : (w : List ℕ) (a : ℕ) → length w ≤ a → 0 ≡ getD w a 0
-past-end w a h = sym (List·getD-eq-default w 0 h)
-
-pub record FilledTo (w v : List ℕ) (a : ℕ) : Type 0 where
-  pub most : a ≤ 63
-  pub long : length v ≡ 63
-  pub passed : (b : ℕ) → b < a → getD v b 0 ≡ getD w b 0
-
-pub filled-none : (w v : List ℕ) → length v ≡ 63 → FilledTo w v 0
-filled-none w v h = record { most = omega arith; long = h; passed = below-none (λ b. getD v b 0 ≡ getD w b 0) }
-
--- an address is read, or past the end it is 0
-pub filled-again : (w v : List ℕ) (a c : ℕ) → FilledTo w v a → a < 63 → c ≡ getD w a 0 → FilledTo w (set v a c) (a + 1)
-filled-again w v a c f h e =
-    record {
-      most = omega arith;
-      long = length-set v a c ∙ f .long;
-      passed = below-more (λ b. getD (set v a c) b 0 ≡ getD w b 0) a
-          (λ b l. getD-set-other v a b c 0 (λ q. omega arith) ∙ f .passed b l)
-          (getD-set-same v a c 0 (let l = f .long in omega arith) ∙ e);
-    }
-
-pub filled-all : (w v : List ℕ) (a : ℕ) → FilledTo w v a → 63 ≤ a → Filled w v
-filled-all w v a f h = record { long = f .long; same = λ b l. f .passed b (omega arith) }
-
--- ---- packed
+-- ---- as the tables give them
 
 module _ (w v : List ℕ) (o x : ℕ) (f : Filled w v) (e : o ≡ pack 10 (value v)) (q : x ≡ total (length v) (λ a. getD v a 0)) where
   pub packed-by : Packed w (record { outer = o; middle = x % 64 })
   packed-by =
       record {
         outer = e
-            ∙ Lanes.pack-same 10 (value v) (λ k. powerSum (58 + k + k / 5) w)
+            ∙ pack-same 10 (value v) (λ k. powerSum (58 + k + k / 5) w)
             (λ k h. outer-sum v (f .long) k ∙ powerSum-same (58 + k + k / 5) v w (f .same));
         middle =
             ap (λ (n : ℕ). n % 64) (q ∙ ap (λ (n : ℕ). total n (λ a. getD v a 0)) (f .long)) ∙ middle-sum v
             ∙ powerSum-same 63 v w (f .same);
       }
 
--- ---- the sums unpacked
+-- ---- as they are held
 
--- k lanes are in their places, with S_0 in its own, and p holds those after them
-pub record UnpackedTo (w sums : List ℕ) (p k : ℕ) : Type 0 where
-  pub most : k ≤ 10
-  pub long : length sums ≡ 11
-  pub after : (j : ℕ) → k + j < 10 → lane p j ≡ powerSum (58 + (k + j) + (k + j) / 5) w
-  pub middle : getD sums 5 0 ≡ powerSum 63 w
-  pub passed : (m : ℕ) → m < k → getD sums (m + m / 5) 0 ≡ powerSum (58 + m + m / 5) w
+-- S_0 set between the other ten, in lanes
+module _ (w : List ℕ) (r : PackedSums) (h : Packed w r) where
+  f : ℕ → ℕ
+  f k = powerSum (58 + k) w
 
-pub unpacked-none : (w sums : List ℕ) (r : PackedSums) → length sums ≡ 11 → Packed w r → UnpackedTo w (set sums 5 (r .middle)) (r .outer) 0
-unpacked-none w sums r h p =
-    record {
-      most = omega arith;
-      long = length-set sums 5 (r .middle) ∙ h;
-      after = λ j b.
-          ap (λ (n : ℕ). lane n j) (p .outer)
-          ∙ Lanes.lane-pack 10 (λ k. powerSum (58 + k + k / 5) w) (λ k. powerSum-lt (58 + k + k / 5) w) j (omega arith)
-          ∙ ap (λ (k : ℕ). powerSum (58 + k + k / 5) w) (sym (zero-add j));
-      middle = getD-set-same sums 5 (r .middle) 0 (omega arith) ∙ p .middle;
-      passed = below-none (λ m. getD (set sums 5 (r .middle)) (m + m / 5) 0 ≡ powerSum (58 + m + m / 5) w);
-    }
+  f-lt : (k : ℕ) → f k < 64
+  unfolding f
+  f-lt k = powerSum-lt (58 + k) w
 
-pub unpacked-again : (w sums : List ℕ) (p k : ℕ) → UnpackedTo w sums p k → k < 10 → UnpackedTo w (set sums (k + k / 5) (p % 64)) (p / 64) (k + 1)
-unpacked-again w sums p k u h =
-    let v : ℕ = p % 64 in
-    let a : ℕ = k + k / 5 in
-    record {
-      most = omega arith;
-      long = length-set sums a v ∙ u .long;
-      after = λ j b. sym (Lanes.lane-suc p j) ∙ u .after (suc j) (omega arith) ∙ ap (λ (n : ℕ). powerSum (58 + n + n / 5) w) (shift k j);
-      middle = getD-set-other sums a 5 v 0 (λ q. omega arith) ∙ u .middle;
-      passed = below-more (λ m. getD (set sums a v) (m + m / 5) 0 ≡ powerSum (58 + m + m / 5) w) k
-          (λ m b. getD-set-other sums a (m + m / 5) v 0 (λ q. omega arith) ∙ u .passed m b)
-          (getD-set-same sums a v 0 (let l = u .long in omega arith) ∙ sym (Lanes.lane-zero p) ∙ u .after 0 (omega arith)
-          ∙ ap (λ (n : ℕ). powerSum (58 + n + n / 5) w) (add-zero k));
-    }
-  where
-    shift : (k j : ℕ) → k + suc j ≡ k + 1 + j
-    shift k j = omega arith
+  outer-lane : (k : ℕ) → k < 10 → lane (r .outer) k ≡ powerSum (58 + k + k / 5) w
+  outer-lane k l =
+      ap (λ (p : ℕ). lane p k) (h .outer) ∙ lane-pack 10 (λ k. powerSum (58 + k + k / 5) w) (λ k. powerSum-lt (58 + k + k / 5) w) k l
 
-pub unpacked-all : (w sums : List ℕ) (p k : ℕ) → UnpackedTo w sums p k → 10 ≤ k → PowerSums w sums
-unpacked-all w sums p k u h =
-    record {
-      long = u .long;
-      sum-at = λ j l.
-          ⊎-elim
-          (λ (e : j ≡ 5). rw e (u .middle))
-          (λ (d : j ≡ 5 → ⊥).
-          ⊎-elim
-          (λ (b : j ≤ 5). lane-at j j (omega arith) (omega arith))
-          (λ (b : 5 < j). lane-at j (j - 1) (omega arith) (omega arith))
-          (le-or-lt j 5))
-          (same-or-not j 5);
-    }
-  where
-    lane-at : (j m : ℕ) → m < k → m + m / 5 ≡ j → getD sums j 0 ≡ powerSum (58 + j) w
-    lane-at j m b e =
-        let f : 58 + m + m / 5 ≡ 58 + j = omega arith in
-        ap (λ (n : ℕ). getD sums n 0) (sym e) ∙ u .passed m b ∙ ap (λ (n : ℕ). powerSum n w) f
+  before : r .outer % 1073741824 ≡ pack 5 f
+  unfolding f
+  before =
+      pack-lanes 5 (r .outer)
+      ∙ pack-same 5 (lane (r .outer)) (λ k. powerSum (58 + k) w) (λ k l. outer-lane k (omega arith) ∙ ap (λ (j : ℕ). powerSum j w) (omega arith))
+
+  between : r .middle % 64 ≡ f 5
+  unfolding f
+  between = ap (λ (n : ℕ). n % 64) (h .middle) ∙ mod-eq-of-lt (powerSum-lt 63 w)
+
+  after : r .outer / 1073741824 % 16777216 ≡ pack 4 (λ k. f (6 + k))
+  unfolding f
+  after =
+      pack-lanes 4 (r .outer / 1073741824)
+      ∙ pack-same 4 (lane (r .outer / 1073741824)) (λ k. powerSum (58 + (6 + k)) w)
+      (λ k l. lane-after (r .outer) 5 k ∙ outer-lane (5 + k) (omega arith) ∙ ap (λ (j : ℕ). powerSum j w) (omega arith))
+
+  first-ten : r .outer % 1073741824 + r .middle % 64 * 1073741824 + r .outer / 1073741824 % 16777216 * 68719476736 ≡ pack 10 f
+  first-ten =
+      ap₂ (λ (a b : ℕ). a + b * 68719476736) (ap₂ (λ (a b : ℕ). a + b * 1073741824) before between ∙ sym (pack-last 5 f)) after
+      ∙ sym (pack-split 6 4 f)
+
+  last-one : r .outer / 18014398509481984 % 64 ≡ f 10
+  unfolding lane f
+  last-one = outer-lane 9 (omega arith)
+
+  pub sums-in-order : PowerSums w (eleven (record {
+    first = r .outer % 1073741824 + r .middle % 64 * 1073741824 + r .outer / 1073741824 % 16777216 * 68719476736;
+    last = r .outer / 18014398509481984 % 64;
+  }))
+  unfolding f
+  sums-in-order =
+      let e : Sums = record {
+        first = r .outer % 1073741824 + r .middle % 64 * 1073741824 + r .outer / 1073741824 % 16777216 * 68719476736;
+        last = r .outer / 18014398509481984 % 64;
+      } in
+      record {
+        long = eleven-long e;
+        sum-at = λ k l.
+            ⊎-elim (λ (q : k ≡ 10). subst (λ (i : ℕ). getD (eleven e) i 0 ≡ powerSum (58 + i) w) (sym q) (eleven-last e ∙ low-twice (r .outer / 18014398509481984) ∙ last-one))
+            (λ (m : k < 10). eleven-first e k m ∙ ap (λ (p : ℕ). lane p k) first-ten ∙ lane-pack 10 f f-lt k m) (eq-or-lt-of-le (le-of-suc-le-suc l));
+      }
+    where
+      low-twice : (c : ℕ) → c % 64 % 64 ≡ c % 64
+      low-twice c = omega arith

@@ -6,7 +6,7 @@ use lib.ListN.{getD}
 use Rattle.lanes.specs.Lanes.{lane}
 use Rattle.lanes.proofs.Laws.{pack-same, pack-lanes}
 use Rattle.sums.specs.declared.PackedSums.{PackedSums}
-use Rattle.sums.specs.declared.Eleven.{Eleven}
+use Rattle.sums.specs.declared.Sums.{Sums}
 use Rattle.sums.specs.Held.{eleven}
 use Rattle.sums.specs.Packed.{Packed}
 use Rattle.sums.proofs.Holding.{eleven-first, eleven-last}
@@ -17,7 +17,7 @@ one-packed w r s p q =
 
 -- eleven sums as they are held, where the sums are the same: all is the same but the four bits of the first number above its ten lanes and
 -- the two bits of the last above its six, which are no part of any sum
-pub same-held : (r s : Eleven) → eleven r ≡ eleven s → (r .first % 64 ^ 10 ≡ s .first % 64 ^ 10) × (r .last % 64 ≡ s .last % 64)
+pub same-held : (r s : Sums) → eleven r ≡ eleven s → (r .first % 64 ^ 10 ≡ s .first % 64 ^ 10) × (r .last % 64 ≡ s .last % 64)
 same-held r s e = (
   pack-lanes 10 (r .first)
       ∙ pack-same 10 (lane (r .first)) (lane (s .first)) (λ k h. sym (eleven-first r k h) ∙ ap (λ (w : List ℕ). getD w k 0) e ∙ eleven-first s k h)

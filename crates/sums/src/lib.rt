@@ -10,25 +10,25 @@ use lanes::FOUR_LANES;
 use lanes::NINE_LANES;
 use lanes::SIX_LANES;
 
-// The power sums of a word: S_-5 to S_-1 and S_1 to S_5 in six-bit lanes, the first lowest, and S_0 beside them.
-pub struct PackedSums {
-    pub outer: u64,
-    pub middle: u8,
-}
-
 // The eleven power sums, S_-5 first: ten in the lanes of one number, the last beside it.
-pub struct Eleven {
+pub struct Sums {
     pub first: u64,
     pub last: u8,
 }
 
+// The same sums as the tables give them: S_-5 to S_-1 and S_1 to S_5 in the lanes of one number, the first lowest, and S_0 beside it.
+struct PackedSums {
+    outer: u64,
+    middle: u8,
+}
+
 // The eleven power sums of the first 63 characters, packed; what the word lacks of them counts as 0, and of each the low six bits count.
-pub fn eleven_sums(word: &[u8]) -> Eleven
+pub fn eleven_sums(word: &[u8]) -> Sums
     ensures { λ r. ⌜ PowerSums (now (word .entry)) (eleven r) ⌝ }
 {
     let sums = packed_sums(word);
     let outer = sums.outer;
-    Eleven {
+    Sums {
         first: outer % FIVE_LANES
             + (sums.middle % 64) as u64 * FIVE_LANES
             + outer / FIVE_LANES % FOUR_LANES * SIX_LANES,
@@ -53,8 +53,8 @@ pub fn power_sums(word: &[u8]) -> [u8; 11]
     sums
 }
 
-// The same eleven sums, packed.
-pub fn packed_sums(word: &[u8]) -> PackedSums
+// The eleven sums as the tables give them.
+fn packed_sums(word: &[u8]) -> PackedSums
     ensures { λ r. ⌜ Packed (now (word .entry)) r ⌝ }
 {
     let v = filled(word);
@@ -94,7 +94,7 @@ fn character(word: &[u8], a: usize) -> u8
 }
 
 // Eleven sums packed: of each the low six bits count.
-pub fn packed(sums: [u8; 11]) -> Eleven
+pub fn packed(sums: [u8; 11]) -> Sums
     ensures { λ r. ⌜ eleven r ≡ lowered sums ⌝ }
 {
     let mut p: u64 = 0;
@@ -103,14 +103,14 @@ pub fn packed(sums: [u8; 11]) -> Eleven
         k -= 1;
         p = p * 64 + (sums[k] % 64) as u64;
     }
-    Eleven {
+    Sums {
         first: p,
         last: sums[10] % 64,
     }
 }
 
 // Eleven sums unpacked.
-pub fn unpacked(sums: Eleven) -> [u8; 11]
+pub fn unpacked(sums: Sums) -> [u8; 11]
     ensures { λ r. ⌜ r ≡ eleven sums ⌝ }
 {
     let mut s = [0u8; 11];
@@ -126,10 +126,10 @@ pub fn unpacked(sums: Eleven) -> [u8; 11]
 }
 
 // Two times eleven sums added.
-pub fn eleven_added(u: Eleven, v: Eleven) -> Eleven
+pub fn eleven_added(u: Sums, v: Sums) -> Sums
     ensures { λ r. ⌜ eleven r ≡ added (eleven u) (eleven v) ⌝ }
 {
-    Eleven {
+    Sums {
         first: u.first ^ v.first,
         last: u.last ^ v.last,
     }

@@ -1,6 +1,6 @@
 -- `sums::character` meets its contract: past the end a list has 0.
 use borrow.Author.Needs.{needs}
-use Rattle.sums.proofs.Packing.{past-end}
+use Rattle.sums.proofs.Loops.{past-end}
 use Rattle.sums.proofs.character.Statement.{statement}
 use Rattle.sums.proofs.character.Tie as tie
 

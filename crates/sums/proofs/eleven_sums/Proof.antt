@@ -1,8 +1,6 @@
 -- `sums::eleven_sums` meets its contract: S_0 is set between the other ten.
 use borrow.Author.Needs.{needs}
-use Rattle.sums.proofs.Holding.{sums-in-order}
-use borrow.Author.Needs.{needs}
-use Rattle.sums.proofs.Holding.{sums-in-order}
+use Rattle.sums.proofs.Packing.{sums-in-order}
 use Rattle.sums.proofs.eleven_sums.Statement.{statement}
 use Rattle.sums.proofs.eleven_sums.Tie as tie
 

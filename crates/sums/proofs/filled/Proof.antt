@@ -1,7 +1,7 @@
 -- `sums::filled` meets its contract: each loop keeps that the characters passed are in place.
 use Prim.Native.Nat.{_-_}
 use borrow.Author.Needs.{needs}
-use Rattle.sums.proofs.Packing.{FilledTo, filled-none, filled-again, filled-all}
+use Rattle.sums.proofs.Loops.{FilledTo, filled-none, filled-again, filled-all}
 use Rattle.sums.proofs.filled.Statement.{statement}
 use Rattle.sums.proofs.filled.Tie as tie
 

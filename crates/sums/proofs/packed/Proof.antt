@@ -1,6 +1,6 @@
 -- `sums::packed` meets its contract: the sums from k on are packed.
 use borrow.Author.Needs.{needs}
-use Rattle.sums.proofs.Holding.{PackedFrom, packed-none, packed-fits, packed-adds, packed-again, packed-all}
+use Rattle.sums.proofs.Loops.{PackedFrom, packed-none, packed-fits, packed-adds, packed-again, packed-all}
 use Rattle.sums.proofs.packed.Statement.{statement}
 use Rattle.sums.proofs.packed.Tie as tie
 

@@ -1,7 +1,7 @@
 -- `sums::unpacked` meets its contract: the sums passed are in place, and p holds those after them.
 use borrow.Author.Needs.{needs}
 use Prim.Native.Nat.{_-_}
-use Rattle.sums.proofs.Holding.{UnpackedTo, unpacked-none, unpacked-again, unpacked-all, unpacked-long}
+use Rattle.sums.proofs.Loops.{UnpackedTo, unpacked-none, unpacked-again, unpacked-all, unpacked-long}
 use Rattle.sums.proofs.unpacked.Statement.{statement}
 use Rattle.sums.proofs.unpacked.Tie as tie
 

@@ -3,7 +3,6 @@ pub mod Words
 pub mod Distances
 pub mod Changes
 pub mod Sums
-pub mod Horner
 pub mod Lines
 pub mod Loops
 pub mod Apart

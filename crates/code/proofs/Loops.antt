@@ -9,11 +9,12 @@ use borrow.Author.Count.{below-none, below-more}
 use Rattle.refusal.specs.Promise.{Tells}
 use Rattle.refusal.proofs.Laws.{tells-yes, tells-no}
 use Rattle.field.specs.Field.{sum, timesX, shifted, product, α, power}
+use Rattle.polynomial.specs.Polynomial.{valueAt}
+use Rattle.polynomial.proofs.Horner.{horner, horner-value}
 use Rattle.code.specs.Word.{Characters, marks, Line}
-use Rattle.code.specs.Inside.{PowerSums, valueAt}
+use Rattle.code.specs.Inside.{PowerSums}
 use Rattle.code.proofs.Words.{characters-below}
 use Rattle.code.proofs.Sums.{powerSum-value}
-use Rattle.code.proofs.Horner.{horner, horner-value}
 use Rattle.code.proofs.Lines.{line-long, line-characters, line-sums, sums-line}
 
 -- ---- whether each character is at most 63

@@ -2,9 +2,10 @@
 ghost use mathlib.Core.Path.{_≡_};
 ghost use lib.ListN.{length};
 ghost use Rattle.refusal.specs.Promise.{Tells};
+ghost use Rattle.polynomial.specs.Polynomial.{valueAt};
 ghost use Rattle.code.specs.Word.{Characters, marks};
 ghost use Rattle.code.specs.Promises.{TellsLine};
-ghost use Rattle.code.specs.Inside.{PowerSums, valueAt};
+ghost use Rattle.code.specs.Inside.{PowerSums};
 
 const ALPHA: u8 = 2;
 

@@ -1,7 +1,7 @@
 -- The power sums of a word packed: the values at the ten points and S_0, as the tables give them and in their order.
 use mathlib.Core.Path.{_≡_, refl, sym, ap, ap₂, _∙_, subst}
 use mathlib.Core.Logic.{⊎-elim}
-use mathlib.Core.List.{List, [], _∷_}
+use mathlib.Core.List.{List}
 use Prim.Native.Nat.{ℕ, zero, suc, _+_, _-_, _*_, _/_, _%_, _<_}
 use native.Mathlib.Nat.{eq-or-lt-of-le, le-of-suc-le-suc, mod-eq-of-lt}
 use native.Mathlib.Omega.{arith}
@@ -11,10 +11,10 @@ use Rattle.field.proofs.Laws
 use Rattle.field.proofs.Totals.{total-same}
 use Rattle.lanes.specs.Lanes.{pack, lane}
 use Rattle.lanes.proofs.Laws.{pack-same, lane-pack, lane-after, pack-lanes, pack-last, pack-split}
-use Rattle.terms.specs.Terms.{point, term}
+use Rattle.terms.specs.Terms.{point}
 use Rattle.points.specs.Value.{value}
 use Rattle.code.specs.Word.{powerSum}
-use Rattle.code.specs.Inside.{PowerSums, valueAt}
+use Rattle.code.specs.Inside.{PowerSums}
 use Rattle.code.proofs.Sums.{powerSum-lt, powerSum-same, powerSum-value}
 use Rattle.sums.specs.declared.Sums.{Sums}
 use Rattle.sums.specs.declared.PackedSums.{PackedSums}
@@ -24,14 +24,9 @@ use Rattle.sums.proofs.Holding.{eleven-long, eleven-first, eleven-last}
 
 -- ---- the values at the ten points
 
-value-valueAt : (w : List ℕ) (i : ℕ) → value w i ≡ valueAt (point i) w
-unfolding value valueAt term
-value-valueAt [] i = refl
-value-valueAt (c ∷ cs) i = ap (sum (product c (power (point i) (length cs)))) (value-valueAt cs i)
-
 outer-sum : (w : List ℕ) → length w ≡ 63 → (i : ℕ) → value w i ≡ powerSum (58 + i + i / 5) w
-unfolding point
-outer-sum w h i = value-valueAt w i ∙ sym (powerSum-value (58 + i + i / 5) w h)
+unfolding value point
+outer-sum w h i = sym (powerSum-value (58 + i + i / 5) w h)
 
 -- ---- S_0
 

@@ -1,7 +1,7 @@
--- The power sums of a word: as sums at the places of its characters, as the value of a polynomial, and of two words added.
-use mathlib.Core.Path.{_≡_, refl, sym, ap, ap₂, _∙_, subst}
+-- The power sums of a word: by Horner's rule, of two words added, as sums at the places of its characters, and as the value of a polynomial.
+use mathlib.Core.Path.{_≡_, refl, sym, ap, _∙_, subst}
 use mathlib.Core.List.{List, [], _∷_}
-use Prim.Native.Nat.{ℕ, zero, suc, _-_, _*_, _%_, _<_, _≤_}
+use Prim.Native.Nat.{ℕ, zero, suc, _+_, _-_, _*_, _%_, _<_, _≤_}
 use native.Mathlib.Nat.{not-suc-le-zero, le-of-suc-le-suc, mul-comm}
 use native.Mathlib.Omega.{arith}
 use lib.ListN.{length, getD, set}
@@ -10,9 +10,11 @@ use Rattle.field.specs.Field.{sum, product, α, power, total}
 use Rattle.field.proofs.Laws
 use Rattle.field.proofs.Totals.{total-same, total-sum, total-front, total-only, total-lt}
 use Rattle.polynomial.specs.Sums.{moment, Fresh, Places, Values}
-use Rattle.code.specs.Word.{Characters, powerSum, added}
-use Rattle.code.specs.Inside.{wordAt}
-use Rattle.code.proofs.Words.{added-get}
+use Rattle.polynomial.specs.Polynomial.{valueAt}
+use Rattle.polynomial.proofs.Horner.{total-empty, horner, horner-total, horner-value}
+use Rattle.code.specs.Word.{Characters, powerSum, added, listed}
+use Rattle.code.specs.Inside.{PowerSums}
+use Rattle.code.proofs.Words.{added-get, listed-long, listed-get}
 
 -- ---- the places of n characters: the powers of α that fall to 1
 
@@ -58,13 +60,14 @@ values-63 w l h = subst (λ (n : ℕ). Values w (places n)) l (values w h)
 -- ---- the sum over addresses
 
 -- exponents of α count modulo 63, so S_j is the value at α^j
-pub powerSum-at : (j : ℕ) (w : List ℕ) → powerSum j w ≡ wordAt w (power α j)
-unfolding powerSum wordAt
-powerSum-at j w =
+pub powerSum-horner : (j : ℕ) (w : List ℕ) → powerSum j w ≡ horner (power α j) w 63
+unfolding powerSum
+powerSum-horner j w =
     total-same 63 (λ a. product (getD w a 0) (power α (j * (62 - a) % 63))) (λ a. product (getD w a 0) (power (power α j) (62 - a)))
     (λ a h.
     ap (product (getD w a 0))
     (Laws.power-mod (j * (62 - a)) ∙ ap (power α) (mul-comm j (62 - a)) ∙ Laws.power-mul α (62 - a) j))
+    ∙ sym (horner-total (power α j) w 63)
 
 pub powerSum-lt : (j : ℕ) (w : List ℕ) → powerSum j w < 64
 unfolding powerSum
@@ -73,7 +76,7 @@ powerSum-lt j w = total-lt 63 (λ a. product (getD w a 0) (power α (j * (62 - a
 -- j counts modulo 63
 pub powerSum-mod : (j : ℕ) (w : List ℕ) → powerSum (j % 63) w ≡ powerSum j w
 powerSum-mod j w =
-    powerSum-at (j % 63) w ∙ ap (wordAt w) (Laws.power-mod j) ∙ sym (powerSum-at j w)
+    powerSum-horner (j % 63) w ∙ ap (λ (x : ℕ). horner x w 63) (Laws.power-mod j) ∙ sym (powerSum-horner j w)
 
 -- words with the same characters have the same sums
 pub powerSum-same : (j : ℕ) (u v : List ℕ) → ((a : ℕ) → a < 63 → getD u a 0 ≡ getD v a 0) → powerSum j u ≡ powerSum j v
@@ -113,23 +116,18 @@ powerSum-set j w a c h l =
 
 -- ---- at the places
 
-none : (f : ℕ → ℕ) → 0 ≡ total 0 f
-unfolding total
-none f = refl
-
 pub moment-total : (j : ℕ) (vs xs : List ℕ) → length vs ≡ length xs
     → moment j vs xs ≡ total (length vs) (λ a. product (getD vs a 0) (power (getD xs a 0) j))
 unfolding moment
-moment-total j [] xs h = none (λ a. product 0 (power (getD xs a 0) j))
+moment-total j [] xs h = total-empty (λ a. product 0 (power (getD xs a 0) j))
 moment-total j (v ∷ vs) [] h = absurd (omega arith)
 moment-total j (v ∷ vs) (x ∷ xs) h =
     ap (sum (product v (power x j))) (moment-total j vs xs (omega arith))
     ∙ sym (total-front (length vs) (λ a. product (getD (v ∷ vs) a 0) (power (getD (x ∷ xs) a 0) j)))
 
 pub powerSum-moment : (j : ℕ) (w : List ℕ) → length w ≡ 63 → powerSum j w ≡ moment j w (places 63)
-unfolding wordAt
 powerSum-moment j w h =
-    powerSum-at j w
+    powerSum-horner j w ∙ horner-total (power α j) w 63
     ∙ total-same 63 (λ a. product (getD w a 0) (power (power α j) (62 - a))) (λ a. product (getD w a 0) (power (getD (places 63) a 0) j))
     (λ a l. ap (product (getD w a 0)) (Laws.power-swap α j (62 - a) ∙ ap (λ (x : ℕ). power x j) (sym (places-get 63 a l))))
     ∙ ap (λ (n : ℕ). total n (λ a. product (getD w a 0) (power (getD (places 63) a 0) j))) (sym h)
@@ -137,25 +135,15 @@ powerSum-moment j w h =
 
 -- ---- as the value of a polynomial, the first character its highest coefficient
 
-unfoldable pub valueAt : ℕ → List ℕ → ℕ
-valueAt x [] = 0
-valueAt x (c ∷ cs) = sum (product c (power x (length cs))) (valueAt x cs)
-
-pub value-total : (x : ℕ) (w : List ℕ) → valueAt x w ≡ total (length w) (λ a. product (getD w a 0) (power x (length w - 1 - a)))
-unfolding valueAt
-value-total x [] = none (λ a. product 0 (power x (0 - 1 - a)))
-value-total x (c ∷ cs) =
-    ap₂ (λ (m s : ℕ). sum (product c (power x m)) s) (less-one (length cs))
-    (value-total x cs
-    ∙ total-same (length cs) (λ a. product (getD cs a 0) (power x (length cs - 1 - a))) (λ a. product (getD cs a 0) (power x (suc (length cs) - 1 - suc a)))
-    (λ a h. ap (λ (m : ℕ). product (getD cs a 0) (power x m)) (omega arith)))
-    ∙ sym (total-front (length cs) (λ a. product (getD (c ∷ cs) a 0) (power x (suc (length cs) - 1 - a))))
-  where
-    less-one : (n : ℕ) → n ≡ suc n - 1 - 0
-    less-one n = omega arith
-
 pub powerSum-value : (j : ℕ) (w : List ℕ) → length w ≡ 63 → powerSum j w ≡ valueAt (power α j) w
-unfolding wordAt
-powerSum-value j w h =
-    powerSum-at j w
-    ∙ sym (subst (λ (n : ℕ). valueAt (power α j) w ≡ total n (λ a. product (getD w a 0) (power (power α j) (n - 1 - a)))) h (value-total (power α j) w))
+powerSum-value j w h = powerSum-horner j w ∙ subst (λ (n : ℕ). horner (power α j) w n ≡ valueAt (power α j) w) h (horner-value (power α j) w)
+
+-- ---- all eleven of any word, by a rule that computes
+
+pub horner-sums : (w : List ℕ) → PowerSums w (listed (λ k. horner (power α (58 + k)) w 63) 0 11)
+horner-sums w =
+    record {
+      long = listed-long (λ k. horner (power α (58 + k)) w 63) 0 11;
+      sum-at = λ k h.
+          listed-get (λ k. horner (power α (58 + k)) w 63) 11 k h ∙ sym (powerSum-horner (58 + k) w);
+    }

@@ -1,9 +1,9 @@
 -- What is proved of words and lines, in the paper's order: the address rule, the distance of 12, the line near a word, where a word was changed, text and number, turning and reversing, words added, and one result.
-use mathlib.Core.Path.{_≡_, sym, ap, ap₂, _∙_}
+use mathlib.Core.Path.{_≡_, sym, ap, _∙_}
 use mathlib.Core.Bool.{Bool}
 use mathlib.Core.Logic.{⊎-elim}
 use mathlib.Core.List.{List}
-use Prim.Native.Nat.{ℕ, _+_, _-_, _%_, _^_, _<_, _≤_}
+use Prim.Native.Nat.{ℕ, _+_, _-_, _%_, _<_, _≤_}
 use native.Mathlib.Omega.{arith}
 use lib.Bits.{bitXor}
 use lib.ListN.{length, getD, replicate, take}
@@ -12,23 +12,16 @@ use Rattle.refusal.proofs.Theorems.{one-verdict}
 use Rattle.numbers.proofs.Cases.{le-or-lt}
 use Rattle.field.specs.Field.{sum, product, α, power, Log, Quotient}
 use Rattle.field.proofs.Laws
-use Rattle.lanes.specs.Lanes.{lane}
-use Rattle.lanes.proofs.Laws.{pack-same, pack-lanes}
 use Rattle.polynomial.specs.Sums.{weight}
 use Rattle.code.specs.Word.{powerSum, Clean, added, marks, Line, text, number, distance, nowhere, firstChanged, lastChanged, turned, reversed}
 use Rattle.code.specs.Promises.{TellsLine}
-use Rattle.code.specs.declared.PackedSums.{PackedSums}
-use Rattle.code.specs.declared.Eleven.{Eleven}
-use Rattle.code.specs.Held.{eleven}
 use Rattle.code.specs.Inside.{PowerSums}
-use Rattle.code.specs.Packed.{Packed}
 use Rattle.code.proofs.Sums.{powerSum-lt}
 use Rattle.code.proofs.Distances
 use Rattle.code.proofs.Changes
 use Rattle.code.proofs.Words
 use Rattle.code.proofs.Lines.{clean-added, marks-line, line-long, line-characters}
 use Rattle.code.proofs.Apart
-use Rattle.code.proofs.Holding.{eleven-first, eleven-last}
 use Rattle.code.proofs.Address.{wrongAt, zeroth-sum, first-sum, sums-ratio, address-by-logs}
 use Rattle.code.proofs.Turning
 use Rattle.code.proofs.Adding
@@ -237,17 +230,3 @@ one-line-verdict w = one-verdict (Line w)
 pub one-list-of-sums : (w r s : List ℕ) → PowerSums w r → PowerSums w s → r ≡ s
 one-list-of-sums w r s p q =
     ext-getD 0 r s (p .long ∙ sym (q .long)) (λ k h. let l = p .long in p .sum-at k (omega arith) ∙ sym (q .sum-at k (omega arith)))
-
-pub one-packed : (w : List ℕ) (r s : PackedSums) → Packed w r → Packed w s → r ≡ s
-one-packed w r s p q =
-    ap₂ (λ (o m : ℕ). record { outer = o; middle = m }) (p .outer ∙ sym (q .outer)) (p .middle ∙ sym (q .middle))
-
--- eleven sums as they are held, where the sums are the same: all is the same but the four bits of the first number above its ten lanes and
--- the two bits of the last above its six, which are no part of any sum
-pub same-held : (r s : Eleven) → eleven r ≡ eleven s → (r .first % 64 ^ 10 ≡ s .first % 64 ^ 10) × (r .last % 64 ≡ s .last % 64)
-same-held r s e = (
-  pack-lanes 10 (r .first)
-      ∙ pack-same 10 (lane (r .first)) (lane (s .first)) (λ k h. sym (eleven-first r k h) ∙ ap (λ (w : List ℕ). getD w k 0) e ∙ eleven-first s k h)
-      ∙ sym (pack-lanes 10 (s .first)),
-  sym (eleven-last r) ∙ ap (λ (w : List ℕ). getD w 10 0) e ∙ eleven-last s,
-)

@@ -1,6 +1,4 @@
--- Words and lines, what the crate's entry point promises, and what its inner functions promise: the sums, and the sums packed.
+-- Words and lines, what the crate's entry point promises, and what its inner functions promise.
 pub mod Word
 pub mod Promises
 pub mod Inside
-pub mod Held
-pub mod Packed

@@ -1,28 +1,16 @@
-// Words of 63 characters: their power sums, and the test for a line.
+// Words of 63 characters: the test for a line, by the sums as they are defined and no table of them.
 ghost use mathlib.Core.Path.{_≡_};
-ghost use lib.ListN.{getD};
-ghost use Rattle.code.specs.Word.{Characters, marks, added};
+ghost use lib.ListN.{length};
 ghost use Rattle.refusal.specs.Promise.{Tells};
+ghost use Rattle.polynomial.specs.Polynomial.{valueAt};
+ghost use Rattle.code.specs.Word.{Characters, marks};
 ghost use Rattle.code.specs.Promises.{TellsLine};
-ghost use Rattle.code.specs.Held.{eleven, lowered};
 ghost use Rattle.code.specs.Inside.{PowerSums};
-ghost use Rattle.code.specs.Packed.{Packed, Filled};
-use lanes::FIVE_LANES;
-use lanes::FOUR_LANES;
-use lanes::NINE_LANES;
-use lanes::SIX_LANES;
 
-// The power sums of a word: S_-5 to S_-1 and S_1 to S_5 in six-bit lanes, the first lowest, and S_0 beside them.
-pub struct PackedSums {
-    pub outer: u64,
-    pub middle: u8,
-}
+const ALPHA: u8 = 2;
 
-// The eleven power sums, S_-5 first: ten in the lanes of one number, the last beside it.
-pub struct Eleven {
-    pub first: u64,
-    pub last: u8,
-}
+// The power -5 of α: the first of the eleven sums is the value there.
+const FIRST_POINT: u8 = 63;
 
 // Whether characters, of any length, are a line.
 pub fn is_line(word: &[u8]) -> bool
@@ -34,58 +22,48 @@ pub fn is_line(word: &[u8]) -> bool
     if !in_range(word) {
         return false;
     }
-    same(power_sums(word), mark_sums())
+    has_sums(word, mark_sums())
 }
 
 // Whether each character is at most 63.
-pub fn in_range(word: &[u8]) -> bool
+fn in_range(word: &[u8]) -> bool
     ensures { λ r. ⌜ Tells (Characters (now (word .entry))) r ⌝ }
 {
-    eights::all_low(word)
+    let mut a: usize = 0;
+    while a < word.len() {
+        if word[a] > 63 {
+            return false;
+        }
+        a += 1;
+    }
+    true
 }
 
-// The eleven power sums, S_-5 first, of the first 63 characters. What the word lacks of them counts as 0, and of each the low six bits count.
-pub fn power_sums(word: &[u8]) -> [u8; 11]
-    ensures { λ r. ⌜ PowerSums (now (word .entry)) r ⌝ }
+// Whether 63 characters have these power sums, S_-5 first.
+fn has_sums(word: &[u8], sums: [u8; 11]) -> bool
+    requires { ⌜ length (now word) ≡ 63 ⌝ }
+    ensures { λ r. ⌜ Tells (PowerSums (now (word .entry)) sums) r ⌝ }
 {
-    let packed = packed_sums(word);
-    let mut p = packed.outer;
-    let mut sums = [0u8; 11];
-    sums[5] = packed.middle;
+    let mut x = FIRST_POINT;
     let mut k: usize = 0;
-    while k < 10 {
-        sums[k + k / 5] = (p % 64) as u8;
-        p = p / 64;
+    while k < 11 {
+        if value_at(word, x) != sums[k] {
+            return false;
+        }
+        x = field::times(ALPHA, x);
         k += 1;
     }
-    sums
+    true
 }
 
-// The same eleven sums, packed.
-pub fn packed_sums(word: &[u8]) -> PackedSums
-    ensures { λ r. ⌜ Packed (now (word .entry)) r ⌝ }
+// The value at x of characters as a polynomial, the first its highest coefficient, by Horner's rule: of each the low six bits count.
+fn value_at(word: &[u8], x: u8) -> u8
+    ensures { λ r. ⌜ r ≡ valueAt x (now (word .entry)) ⌝ }
 {
-    let v = filled(word);
-    let outer = points::values(v);
-    let middle = eights::xor_of(&v) % 64;
-    PackedSums { outer, middle }
-}
-
-// The first 63 characters, 0 for each that the word lacks. A word of 63 is copied with no further test.
-fn filled(word: &[u8]) -> [u8; 63]
-    ensures { λ r. ⌜ Filled (now (word .entry)) r ⌝ }
-{
-    let mut v = [0u8; 63];
+    let mut v: u8 = 0;
     let mut a: usize = 0;
-    if word.len() == 63 {
-        while a < 63 {
-            v[a] = word[a];
-            a += 1;
-        }
-        return v;
-    }
-    while a < 63 {
-        v[a] = character(word, a);
+    while a < word.len() {
+        v = field::plus(field::times(v, x), word[a] % 64);
         a += 1;
     }
     v
@@ -96,84 +74,4 @@ pub fn mark_sums() -> [u8; 11]
     ensures { λ r. ⌜ PowerSums marks r ⌝ }
 {
     [43, 6, 3, 25, 3, 41, 25, 5, 27, 61, 52]
-}
-
-// The character at an address, 0 past the end.
-fn character(word: &[u8], a: usize) -> u8
-    ensures { λ r. ⌜ r ≡ getD (now (word .entry)) a 0 ⌝ }
-{
-    if a < word.len() {
-        return word[a];
-    }
-    0
-}
-
-// Whether two lists of sums are the same.
-fn same(u: [u8; 11], v: [u8; 11]) -> bool
-    ensures { λ r. ⌜ Tells (u ≡ v) r ⌝ }
-{
-    let mut k = 0;
-    while k < 11 {
-        if u[k] != v[k] {
-            return false;
-        }
-        k += 1;
-    }
-    true
-}
-
-// The eleven power sums of the first 63 characters, packed; what the word lacks of them counts as 0, and of each the low six bits count.
-pub fn eleven_sums(word: &[u8]) -> Eleven
-    ensures { λ r. ⌜ PowerSums (now (word .entry)) (eleven r) ⌝ }
-{
-    let sums = packed_sums(word);
-    let outer = sums.outer;
-    Eleven {
-        first: outer % FIVE_LANES
-            + (sums.middle % 64) as u64 * FIVE_LANES
-            + outer / FIVE_LANES % FOUR_LANES * SIX_LANES,
-        last: (outer / NINE_LANES % 64) as u8,
-    }
-}
-
-// Eleven sums packed: of each the low six bits count.
-pub fn packed(sums: [u8; 11]) -> Eleven
-    ensures { λ r. ⌜ eleven r ≡ lowered sums ⌝ }
-{
-    let mut p: u64 = 0;
-    let mut k: usize = 10;
-    while k > 0 {
-        k -= 1;
-        p = p * 64 + (sums[k] % 64) as u64;
-    }
-    Eleven {
-        first: p,
-        last: sums[10] % 64,
-    }
-}
-
-// Eleven sums unpacked.
-pub fn unpacked(sums: Eleven) -> [u8; 11]
-    ensures { λ r. ⌜ r ≡ eleven sums ⌝ }
-{
-    let mut s = [0u8; 11];
-    let mut p = sums.first;
-    let mut k: usize = 0;
-    while k < 10 {
-        s[k] = (p % 64) as u8;
-        p = p / 64;
-        k += 1;
-    }
-    s[10] = sums.last % 64;
-    s
-}
-
-// Two times eleven sums added.
-pub fn eleven_added(u: Eleven, v: Eleven) -> Eleven
-    ensures { λ r. ⌜ eleven r ≡ added (eleven u) (eleven v) ⌝ }
-{
-    Eleven {
-        first: u.first ^ v.first,
-        last: u.last ^ v.last,
-    }
 }

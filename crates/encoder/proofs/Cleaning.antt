@@ -6,12 +6,14 @@ use native.Mathlib.Omega.{arith}
 use lib.ListN.{length, take, drop, replicate, length-append, take-append-drop}
 use lib.Seq.{take-at, drop-at, length-take-le}
 use Rattle.field.specs.Field.{α, power}
+use Rattle.polynomial.specs.Polynomial.{valueAt}
+use Rattle.polynomial.proofs.Horner.{value-zeros}
 use Rattle.code.specs.Word.{Characters, Clean}
-use Rattle.code.proofs.Sums.{valueAt, powerSum-value}
+use Rattle.code.proofs.Sums.{powerSum-value}
 use Rattle.code.proofs.Distances.{distance-take}
 use Rattle.code.proofs.Apart.{clean-near}
 use Rattle.encoder.specs.Division.{plus, divide, leftOf, remainder, GeneratorDivides}
-use Rattle.encoder.proofs.Division.{root, plus-self, plus-parts, divide-plus, divide-zeros, divide-value, value-zeros, remainder-is, remainder-long}
+use Rattle.encoder.proofs.Division.{root, plus-self, plus-parts, divide-plus, divide-zeros, divide-value, remainder-is, remainder-long}
 use Rattle.encoder.proofs.Quotients.{quotients, left-none, multiple-left}
 use Rattle.encoder.proofs.Encoding.{clean-remainder, characters-take}
 

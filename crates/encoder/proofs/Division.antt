@@ -9,9 +9,10 @@ use lib.ListN.{length, getD, drop, replicate, length-append}
 use Rattle.numbers.proofs.Range.{each, each-at}
 use Rattle.field.specs.Field.{sum, timesX, shifted, product, α, power}
 use Rattle.field.proofs.Laws
+use Rattle.polynomial.specs.Polynomial.{valueAt}
+use Rattle.polynomial.proofs.Horner.{value-append, value-zeros}
 use Rattle.code.specs.Word.{Characters}
 use Rattle.code.proofs.Words.{cons}
-use Rattle.code.proofs.Sums.{valueAt}
 use Rattle.encoder.specs.Division.{plus, scaled, timesRoot, rooted, generator, divideOnce, divide, leftOf, remainder}
 
 -- ---- the generator
@@ -186,21 +187,6 @@ value-scaled x f [] = sym (Laws.product-zero f)
 value-scaled x f (b ∷ bs) =
     ap₂ sum (ap (λ (n : ℕ). product (product f b) (power x n)) (length-scaled f bs) ∙ Laws.product-assoc f b (power x (length bs))) (value-scaled x f bs)
     ∙ sym (Laws.product-sum f (product b (power x (length bs))) (valueAt x bs))
-
-append-step : (c a w s t : ℕ) → sum (product c (product w a)) (sum (product s a) t) ≡ sum (product (sum (product c w) s) a) t
-append-step c a w s t = simp Laws.ring
-
-pub value-append : (x : ℕ) (us vs : List ℕ) → valueAt x (us ++ vs) ≡ sum (product (valueAt x us) (power x (length vs))) (valueAt x vs)
-unfolding valueAt
-value-append x [] vs = sym (ap (λ (t : ℕ). sum t (valueAt x vs)) (Laws.zero-product (power x (length vs))) ∙ Laws.zero-sum (valueAt x vs))
-value-append x (u ∷ us) vs =
-    ap₂ sum (ap (product u) (ap (power x) (length-append us vs) ∙ Laws.power-add x (length us) (length vs))) (value-append x us vs)
-    ∙ append-step u (power x (length vs)) (power x (length us)) (valueAt x us) (valueAt x vs)
-
-pub value-zeros : (x n : ℕ) → valueAt x (replicate n 0) ≡ 0
-unfolding valueAt
-value-zeros x zero = refl
-value-zeros x (suc n) = ap₂ sum (Laws.zero-product (power x (length (replicate n 0)))) (value-zeros x n) ∙ Laws.sum-self 0
 
 -- at a root of the generator, x^11 is what is below it
 lower-at : (x : ℕ) → valueAt x (1 ∷ lower) ≡ 0 → valueAt x lower ≡ power x 11

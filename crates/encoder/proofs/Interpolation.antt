@@ -15,15 +15,16 @@ use Rattle.numbers.proofs.Cases.{le-or-lt}
 use Rattle.field.specs.Field.{sum, timesX, shifted, product, α, power, total}
 use Rattle.field.proofs.Laws
 use Rattle.field.proofs.Totals.{total-same, total-sum, total-scaled, total-swap, total-only, total-lt}
+use Rattle.polynomial.specs.Polynomial.{valueAt}
+use Rattle.polynomial.proofs.Horner.{value-total, value-append, value-zeros, horner, horner-value}
 use Rattle.lanes.specs.Lanes.{pack, lane}
 use Rattle.lanes.proofs.Laws.{lane-lt, pack-same, lane-pack, xor-pack}
 use Rattle.code.specs.Word.{Characters, powerSum, listed}
 use Rattle.code.specs.Inside.{PowerSums}
 use Rattle.code.proofs.Words.{listed-long, listed-get, characters-below}
-use Rattle.code.proofs.Sums.{valueAt, value-total, powerSum-value, powerSum-lt}
+use Rattle.code.proofs.Sums.{powerSum-value, powerSum-lt}
 use Rattle.encoder.specs.Division.{remainder}
 use Rattle.encoder.specs.Interpolation.{ChecksWith, eleven}
-use Rattle.encoder.proofs.Division.{value-append, value-zeros}
 use Rattle.encoder.proofs.Encoding.{characters-append}
 use Rattle.encoder.proofs.Cleaning.{clean-ends}
 
@@ -57,18 +58,9 @@ tens =
 abbrev word : ℕ → List ℕ
 word j = eleven (getD tens j 0) (unit j 5)
 
--- a value by Horner's rule, from s on
-horner : ℕ → ℕ → List ℕ → ℕ
-horner x s [] = product s 1
-horner x s (c ∷ cs) = horner x (sum (product s x) c) cs
-
-horner-step : (x s c p v : ℕ) → sum (product (sum (product s x) c) p) v ≡ sum (product s (product x p)) (sum (product c p) v)
-horner-step x s c p v = simp Laws.ring
-
-horner-is : (x s : ℕ) (cs : List ℕ) → horner x s cs ≡ sum (product s (power x (length cs))) (valueAt x cs)
-unfolding horner valueAt power
-horner-is x s [] = sym (Laws.sum-zero (product s 1))
-horner-is x s (c ∷ cs) = horner-is x (sum (product s x) c) cs ∙ horner-step x s c (power x (length cs)) (valueAt x cs)
+pub eleven-long : (ten s : ℕ) → length (eleven ten s) ≡ 11
+unfolding eleven listed
+eleven-long ten s = refl
 
 -- the powers of α from -5 to 5
 abbrev points : List ℕ
@@ -79,7 +71,7 @@ unfolding power product shifted timesX sum
 point-test = tt
 
 -- computed: at j the word has the sum 1, at the ten others 0
-word-test : T (each 11 (λ j. each 11 (λ k. eqb (horner (getD points k 0) 0 (word j)) (unit j k))))
+word-test : T (each 11 (λ j. each 11 (λ k. eqb (horner (getD points k 0) (word j) 11) (unit j k))))
 unfolding horner eleven listed lane total power product shifted timesX sum oneWhere
 word-test = tt
 
@@ -87,10 +79,10 @@ word-value : (j k : ℕ) → j < 11 → k < 11 → valueAt (power α (58 + k)) (
 word-value j k hj hk =
     let x : ℕ = getD points k 0 in
     ap (λ (x : ℕ). valueAt x (word j)) (eqb→eq (power α (58 + k)) x (each-at 11 (λ k. eqb (power α (58 + k)) (getD points k 0)) point-test k hk))
-    ∙ sym (horner-is x 0 (word j) ∙ ap (λ (t : ℕ). sum t (valueAt x (word j))) (Laws.zero-product (power x (length (word j)))) ∙ Laws.zero-sum (valueAt x (word j)))
-    ∙ eqb→eq (horner x 0 (word j)) (unit j k)
-    (each-at 11 (λ k. eqb (horner (getD points k 0) 0 (word j)) (unit j k))
-    (each-at 11 (λ j. each 11 (λ k. eqb (horner (getD points k 0) 0 (word j)) (unit j k))) word-test j hj) k hk)
+    ∙ sym (subst (λ (n : ℕ). horner x (word j) n ≡ valueAt x (word j)) (eleven-long (getD tens j 0) (unit j 5)) (horner-value x (word j)))
+    ∙ eqb→eq (horner x (word j) 11) (unit j k)
+    (each-at 11 (λ k. eqb (horner (getD points k 0) (word j) 11) (unit j k))
+    (each-at 11 (λ j. each 11 (λ k. eqb (horner (getD points k 0) (word j) 11) (unit j k))) word-test j hj) k hk)
 
 unit-same : (k : ℕ) → unit k k ≡ 1
 unfolding oneWhere
@@ -105,10 +97,6 @@ unit-other j k d = go (eqb j k) refl
     go false e = refl
 
 -- ---- eleven characters by ten in lanes and their sum
-
-pub eleven-long : (ten s : ℕ) → length (eleven ten s) ≡ 11
-unfolding eleven listed
-eleven-long ten s = refl
 
 pub eleven-lane : (ten s i : ℕ) → i < 10 → getD (eleven ten s) i 0 ≡ lane ten i
 unfolding eleven

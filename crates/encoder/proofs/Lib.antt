@@ -5,7 +5,7 @@ pub mod Stepping
 pub mod Encoding
 pub mod Cleaning
 pub mod Interpolation
-pub mod Turns
+pub mod Loops
 pub mod Running
 pub mod Theorems
 pub mod Bench

@@ -15,7 +15,7 @@ use Rattle.encoder.specs.Runs.{Through, none, more, Holds}
 use Rattle.encoder.proofs.Division.{lower}
 use Rattle.encoder.proofs.Stepping.{stepped-long, stepped-get, remainder-none, remainder-more}
 use Rattle.encoder.proofs.Encoding.{characters-append, characters-remainder}
-use Rattle.encoder.proofs.Turns.{step-taken, checks-given}
+use Rattle.encoder.proofs.Loops.{step-taken, checks-given}
 
 -- ---- the promises determine the result
 

@@ -9,7 +9,7 @@ ghost use Rattle.encoder.specs.Register.{empty, stepped, checksOf};
 ghost use Rattle.encoder.specs.Promises.{encodingNumbers, Encodes, stepNumbers, Steps, checkNumbers, Checks};
 ghost use Rattle.encoder.specs.Interpolation.{ChecksWith, eleven};
 ghost use Rattle.encoder.specs.Inside.{information};
-use code::in_range;
+use eights::all_low;
 use refusal::Refusal;
 
 // The generator's coefficients but the highest and the lowest, which are 1, in lanes.
@@ -178,14 +178,14 @@ pub fn encode_line(text: &[u8], number: u16, output: &mut [u8]) -> LineEncoding
     if output.len() != 63 {
         return LineEncoding::Refused(Refusal::OutputLength);
     }
-    if !in_range(text) {
+    if !all_low(text) {
         return LineEncoding::Refused(Refusal::ValueOver);
     }
     if number > 4095 {
         return LineEncoding::Refused(Refusal::NumberOver);
     }
     let word = information_of(text, number);
-    let checks = marked(checks_from(code::power_sums(&word)));
+    let checks = marked(checks_from(sums::power_sums(&word)));
     write_line(word, checks, output);
     LineEncoding::Written
 }

@@ -36,7 +36,7 @@ pub fn read_line(word: &[u8], radius: u8, wanted: Wanted, output: &mut [u8]) -> 
     if output.len() != 63 {
         return LineReading::Refused(Refusal::OutputLength);
     }
-    if !code::in_range(word) {
+    if !eights::all_low(word) {
         return LineReading::Refused(Refusal::ValueOver);
     }
     if radius > 5 {

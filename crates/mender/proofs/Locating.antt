@@ -11,12 +11,12 @@ use Rattle.field.specs.Field.{product}
 use Rattle.field.proofs.Totals.{total-same}
 use Rattle.lanes.specs.Lanes.{lane}
 use Rattle.lanes.proofs.Laws.{lane-lt}
-use Rattle.code.specs.declared.Eleven.{Eleven}
-use Rattle.code.specs.Held.{eleven}
+use Rattle.sums.specs.declared.Sums.{Sums}
+use Rattle.sums.specs.Held.{eleven}
 use Rattle.code.specs.Inside.{PowerSums}
 use Rattle.code.specs.Word.{listed}
 use Rattle.code.proofs.Words.{listed-long, listed-get}
-use Rattle.code.proofs.Holding.{eleven-first}
+use Rattle.sums.proofs.Holding.{eleven-first}
 use Rattle.mender.specs.declared.Mended.{Mended}
 use Rattle.mender.specs.declared.values.Pattern.{Pattern}
 use Rattle.mender.specs.Mender.{MendsTo}
@@ -28,13 +28,13 @@ use Rattle.mender.proofs.Fitting.{Least, some-row}
 use Rattle.mender.proofs.Finding.{Told, found-none, found-no-sixth, found-heavy, found-other, found-word}
 use Rattle.mender.proofs.rows.Elimination.{rows-none, rows-first}
 
-sums-in : (h : Eleven) → SumsIn (h .first) (eleven h)
+sums-in : (h : Sums) → SumsIn (h .first) (eleven h)
 sums-in h =
     record {
       sum-at = λ k l. sym (mod-eq-of-lt (lane-lt (h .first) k)) ∙ ap (λ (n : ℕ). n % 64) (sym (eleven-first h k l));
     }
 
-module _ (h : Eleven) (c e : ℕ) (x : List ℕ) (r : ℕ) (out : Mended) (b : (c ≤ 11) × (e ≤ c / 2)) (rows : RowsFrom (h .first) e (min (c - c / 2) 5) x) (f : FirstRow x r) where
+module _ (h : Sums) (c e : ℕ) (x : List ℕ) (r : ℕ) (out : Mended) (b : (c ≤ 11) × (e ≤ c / 2)) (rows : RowsFrom (h .first) e (min (c - c / 2) 5) x) (f : FirstRow x r) where
   told : Told c e (min (c - c / 2) 5)
   told =
       let g = b .0 in
@@ -80,7 +80,7 @@ module _ (h : Eleven) (c e : ℕ) (x : List ℕ) (r : ℕ) (out : Mended) (b : (
             (here .ends) g q
 
 -- the coefficients of the first row combine the windows to 0
-pub locator-kills : (h : Eleven) (c e : ℕ) (x : List ℕ) (r : ℕ) (p s : List ℕ) (n : ℕ) → RowsFrom (h .first) e (min (c - c / 2) 5) x → FirstRow x r → r < 6
+pub locator-kills : (h : Sums) (c e : ℕ) (x : List ℕ) (r : ℕ) (p s : List ℕ) (n : ℕ) → RowsFrom (h .first) e (min (c - c / 2) 5) x → FirstRow x r → r < 6
     → Coefficients (getD x r 0) p → s ≡ eleven h → n ≡ min (c - c / 2) 5 → Kills p s n
 locator-kills h c e x r p s n rows f l k es en =
     let a : Least (eleven h) e (min (c - c / 2) 5) r p = rows-first (eleven h) e (min (c - c / 2) 5) x (rows .hold (eleven h) (sums-in h)) r p l f k in
@@ -90,7 +90,7 @@ locator-kills h c e x r p s n rows f l k es en =
     }
 
 -- the row fails the sixth window
-pub not-sixth : (h : Eleven) (c e : ℕ) (x : List ℕ) (r : ℕ) (out : Mended) (a : Bool) → (c ≤ 11) × (e ≤ c / 2) → RowsFrom (h .first) e (min (c - c / 2) 5) x → FirstRow x r
+pub not-sixth : (h : Sums) (c e : ℕ) (x : List ℕ) (r : ℕ) (out : Mended) (a : Bool) → (c ≤ 11) × (e ≤ c / 2) → RowsFrom (h .first) e (min (c - c / 2) 5) x → FirstRow x r
     → r < 6 → c ≡ 11 → Tells (sixth (getD x r 0) (eleven h) ≡ 0) a → a ≡ false → Nothing out → MendsTo (eleven h) c e out
 not-sixth h c e x r out a b rows f l q t z n =
     let p : List ℕ = listed (λ k. lane (getD x r 0) (5 + k)) 0 6 in

@@ -17,10 +17,10 @@ use Rattle.lanes.proofs.Laws.{lane-suc, pack-same, pack-equal, pack-lanes, pack
 use Rattle.places.specs.Logs.{LogOf}
 use Rattle.polynomial.specs.Sums.{weight, nonzero}
 use Rattle.code.specs.Word.{Characters, powerSum}
-use Rattle.code.specs.declared.Eleven.{Eleven}
-use Rattle.code.specs.Held.{eleven}
+use Rattle.sums.specs.declared.Sums.{Sums}
+use Rattle.sums.specs.Held.{eleven}
 use Rattle.code.proofs.Words.{zero-get}
-use Rattle.code.proofs.Holding.{eleven-first, eleven-last, eleven-characters}
+use Rattle.sums.proofs.Holding.{eleven-first, eleven-last, eleven-characters}
 use Rattle.code.proofs.Sums.{powerSum-set}
 use Rattle.mender.specs.declared.Single.{Single}
 use Rattle.mender.specs.Mender.{Fits}
@@ -129,7 +129,7 @@ module _ (s : List ℕ) (x y l : ℕ) (small : (k : ℕ) → k < 11 → getD s k
 -- ---- as the code has them
 
 -- the ten after the first, in lanes
-after-first : (h : Eleven) → h .first / 64 % 18014398509481984 + h .last % 64 * 18014398509481984 ≡ pack 10 (λ k. getD (eleven h) (suc k) 0)
+after-first : (h : Sums) → h .first / 64 % 18014398509481984 + h .last % 64 * 18014398509481984 ≡ pack 10 (λ k. getD (eleven h) (suc k) 0)
 after-first h =
     ap₂ (λ (a b : ℕ). a + b * 18014398509481984)
     (pack-lanes 9 (h .first / 64)
@@ -141,7 +141,7 @@ after-first h =
 pub sum-divides : (a y : ℕ) → y ≡ a % 64 → (y ≡ 0 → ⊥) → 0 < y % 64
 sum-divides a y e = Laws.may-divide y (omega arith)
 
-pub one-error : (h : Eleven) (y z i x p l : ℕ) → y ≡ h .first / 1073741824 % 64 → (y ≡ 0 → ⊥) → x ≡ product z i
+pub one-error : (h : Sums) (y z i x p l : ℕ) → y ≡ h .first / 1073741824 % 64 → (y ≡ 0 → ⊥) → x ≡ product z i
     → p ≡ pack 10 (λ k. product (lane (h .first) k) x) → p ≡ h .first / 64 % 18014398509481984 + h .last % 64 * 18014398509481984
     → LogOf x l → OneError (eleven h) (record { found = true; address = 62 - l; value = y })
 unfolding lane

@@ -20,12 +20,12 @@ use Rattle.lanes.proofs.Laws.{lane-lt, lane-after, pack-same, pack-more, pack-l
 use Rattle.polynomial.specs.Sums.{weight}
 use Rattle.code.specs.Word.{Characters, added}
 use Rattle.code.specs.Inside.{PowerSums, Ends}
-use Rattle.code.specs.declared.Eleven.{Eleven}
-use Rattle.code.specs.Held.{eleven, lowered}
+use Rattle.sums.specs.declared.Sums.{Sums}
+use Rattle.sums.specs.Held.{eleven, lowered}
 use Rattle.code.proofs.Words.{zero-get, listed-get, length-added, added-get}
 use Rattle.code.proofs.Sums.{powerSum-lt}
 use Rattle.code.proofs.Changes.{ends-none, ends-one, ends-added}
-use Rattle.code.proofs.Holding.{eleven-first, eleven-last, eleven-long, eleven-characters}
+use Rattle.sums.proofs.Holding.{eleven-first, eleven-last, eleven-long, eleven-characters}
 use Rattle.mender.specs.declared.Mended.{Mended}
 use Rattle.mender.specs.declared.Single.{Single}
 use Rattle.mender.specs.Mender.{Fits, MendsTo, Mends, Nearest, HasSums}
@@ -64,7 +64,7 @@ lowered-same s c k b t h = low-same (getD s k 0) (t k h) ∙ sym (listed-get (λ
 
 -- ---- no error
 
-sums-zero : (h : Eleven) → h .first % 1152921504606846976 ≡ 0 → h .last % 64 ≡ 0 → Clear (eleven h)
+sums-zero : (h : Sums) → h .first % 1152921504606846976 ≡ 0 → h .last % 64 ≡ 0 → Clear (eleven h)
 unfolding pack
 sums-zero h f l =
     record {
@@ -77,16 +77,16 @@ sums-zero h f l =
     ten : (k : ℕ) → 10 ≤ k → k < 11 → k ≡ 10
     ten k g b = omega arith
 
-pub zero-not : (h : Eleven) → (h .first % 1152921504606846976 ≡ 0 → ⊥) → Tells (Clear (eleven h)) false
+pub zero-not : (h : Sums) → (h .first % 1152921504606846976 ≡ 0 → ⊥) → Tells (Clear (eleven h)) false
 unfolding pack
 zero-not h d =
     tells-no (λ z.
     d (pack-lanes 10 (h .first) ∙ pack-same 10 (lane (h .first)) (λ k. 0) (λ k b. sym (eleven-first h k b) ∙ z .zero k (omega arith))))
 
-pub last-not : (h : Eleven) → (h .last % 64 ≡ 0 → ⊥) → Tells (Clear (eleven h)) false
+pub last-not : (h : Sums) → (h .last % 64 ≡ 0 → ⊥) → Tells (Clear (eleven h)) false
 last-not h d = tells-no (λ z. d (sym (eleven-last h) ∙ z .zero 10 (omega arith)))
 
-pub zero-all : (h : Eleven) → h .first % 1152921504606846976 ≡ 0 → h .last % 64 ≡ 0 → Tells (Clear (eleven h)) true
+pub zero-all : (h : Sums) → h .first % 1152921504606846976 ≡ 0 → h .last % 64 ≡ 0 → Tells (Clear (eleven h)) true
 zero-all h f l = tells-yes (sums-zero h f l)
 
 nothing-fits : (s : List ℕ) (e : ℕ) → Clear s → Fits s 11 e (replicate 63 0)
@@ -185,21 +185,21 @@ not-wanted w s e m b t q n =
     nearest-none (HasSums s) w e m n (λ y v p l. t .fails q (λ k h. subst (λ (x : ℕ). x < 64) (p .sums k h) (powerSum-lt (58 + k) v)))
 
 -- the sums wanted, packed, are those sums
-pub packed-same : (s : List ℕ) (h : Eleven) (b : Bool) → length s ≡ 11 → Tells (ElementsTo s 11) b → b ≡ true → eleven h ≡ lowered s → eleven h ≡ s
+pub packed-same : (s : List ℕ) (h : Sums) (b : Bool) → length s ≡ 11 → Tells (ElementsTo s 11) b → b ≡ true → eleven h ≡ lowered s → eleven h ≡ s
 packed-same s h b l t q e =
     ext-getD 0 (eleven h) s (eleven-long h ∙ sym l)
     (λ k i. ap (λ (u : List ℕ). getD u k 0) e ∙ sym (lowered-same s 11 k (omega arith) (t .holds q) (omega (arith, eleven-long h))))
 
 -- ---- the sixth window
 
-window : (h : Eleven) (k : ℕ) → ℕ
+window : (h : Sums) (k : ℕ) → ℕ
 window h k = getD (eleven h) (5 + k) 0
 
-window-past : (h : Eleven) (k : ℕ) → 6 ≤ k → window h k ≡ 0
+window-past : (h : Sums) (k : ℕ) → 6 ≤ k → window h k ≡ 0
 unfolding window
 window-past h k g = List·getD-eq-default (eleven h) 0 (le-trans (le-of-eq (eleven-long h)) (omega arith))
 
-window-is : (h : Eleven) → h .first / 1073741824 % 1073741824 + h .last % 64 * 1073741824 ≡ pack 10 (window h)
+window-is : (h : Sums) → h .first / 1073741824 % 1073741824 + h .last % 64 * 1073741824 ≡ pack 10 (window h)
 unfolding window
 window-is h =
     ap₂ (λ (a b : ℕ). a + b * 1073741824)
@@ -216,7 +216,7 @@ total-six f z =
     let t : ℕ = sum (sum (sum (sum (sum (sum 0 (f 0)) (f 1)) (f 2)) (f 3)) (f 4)) (f 5) in
     ap₂ sum (ap₂ sum (ap₂ sum (ap (sum t) (z 6 (omega arith)) ∙ Laws.sum-zero t) (z 7 (omega arith)) ∙ Laws.sum-zero t) (z 8 (omega arith)) ∙ Laws.sum-zero t) (z 9 (omega arith)) ∙ Laws.sum-zero t
 
-sixth-is : (x : ℕ) (h : Eleven) (y p v : ℕ) → y ≡ h .first / 1073741824 % 1073741824 + h .last % 64 * 1073741824
+sixth-is : (x : ℕ) (h : Sums) (y p v : ℕ) → y ≡ h .first / 1073741824 % 1073741824 + h .last % 64 * 1073741824
     → p ≡ pack 10 (λ k. product (lane (x / 1073741824) k) (lane y k)) → v ≡ total 10 (lane p) → v ≡ sixth x (eleven h)
 unfolding sixth window
 sixth-is x h y p v ey ep ev =
@@ -227,12 +227,12 @@ sixth-is x h y p v ey ep ev =
     ∙ ap₂ product (lane-after x 5 k) (ap (λ (q : ℕ). lane q k) (ey ∙ window-is h) ∙ lane-pack 10 (window h) (λ k. eleven-characters h (5 + k)) k l))
     ∙ total-six (λ k. product (lane x (5 + k)) (window h k)) (λ k g. ap (product (lane x (5 + k))) (window-past h k g) ∙ Laws.product-zero (lane x (5 + k)))
 
-pub sixth-not : (x : ℕ) (h : Eleven) (p v : ℕ)
+pub sixth-not : (x : ℕ) (h : Sums) (p v : ℕ)
     → p ≡ pack 10 (λ k. product (lane (x / 1073741824) k) (lane (h .first / 1073741824 % 1073741824 + h .last % 64 * 1073741824) k)) → v ≡ total 10 (lane p)
     → (v ≡ 0 → ⊥) → Tells (sixth x (eleven h) ≡ 0) false
 sixth-not x h p v ep ev d = tells-no (λ z. d (sixth-is x h (h .first / 1073741824 % 1073741824 + h .last % 64 * 1073741824) p v refl ep ev ∙ z))
 
-pub sixth-zero : (x : ℕ) (h : Eleven) (p v : ℕ)
+pub sixth-zero : (x : ℕ) (h : Sums) (p v : ℕ)
     → p ≡ pack 10 (λ k. product (lane (x / 1073741824) k) (lane (h .first / 1073741824 % 1073741824 + h .last % 64 * 1073741824) k)) → v ≡ total 10 (lane p)
     → v ≡ 0 → Tells (sixth x (eleven h) ≡ 0) true
 sixth-zero x h p v ep ev z = tells-yes (sym (sixth-is x h (h .first / 1073741824 % 1073741824 + h .last % 64 * 1073741824) p v refl ep ev) ∙ z)
@@ -248,7 +248,7 @@ module _ (s : List ℕ) (c e x y : ℕ) (m : Mended) (b : Bool) (ex : x ≡ min 
   pub mend-refused : b ≡ false → Nothing m → Mends s c e m
   mend-refused q n = mended s c e x y m ex ey (not-elements s x y m b t q n)
 
-  pub mend-found : b ≡ true → (h : Eleven) → eleven h ≡ lowered s → MendsTo (eleven h) x y m → Mends s c e m
+  pub mend-found : b ≡ true → (h : Sums) → eleven h ≡ lowered s → MendsTo (eleven h) x y m → Mends s c e m
   mend-found q h eh f =
       mended s c e x y m ex ey
       (mends-same s (eleven h) x y m (λ k l. lowered-same s x k (omega arith) (t .holds q) l ∙ ap (λ (u : List ℕ). getD u k 0) (sym eh)) f)
@@ -262,7 +262,7 @@ pub address-fits : (s : List ℕ) (o : Single) → OneError s o → o .found ≡
 address-fits s o a q = let h = a .inside q in omega arith
 
 -- what the nearest word asks of its parts
-pub wanted-near : (w u s d : List ℕ) (h : Eleven) (e x : ℕ) (b f : Bool) (m : Mended) → length w ≡ 63 → Tells (Characters w) b → b ≡ true → PowerSums w u → length s ≡ 11
+pub wanted-near : (w u s d : List ℕ) (h : Sums) (e x : ℕ) (b f : Bool) (m : Mended) → length w ≡ 63 → Tells (Characters w) b → b ≡ true → PowerSums w u → length s ≡ 11
     → Tells (ElementsTo s 11) f → f ≡ true → eleven h ≡ lowered s → d ≡ added u (eleven h) → x ≡ min e 5 → Repairs d w x m → Nearest (HasSums s) w (min e 5) m
 wanted-near w u s d h e x b f m l t q us ls te tq eh ed ex y =
     subst (λ (k : ℕ). Nearest (HasSums s) w k m) ex

@@ -5,11 +5,12 @@ use mathlib.Core.List.{List}
 use Prim.Native.Nat.{ℕ, zero, suc, min, _+_, _-_, _/_, _%_, _^_, _<_, _≤_}
 use lib.Dec.{eqb}
 use lib.ListN.{length, getD, replicate}
-use Rattle.field.specs.Field.{sum, product, α, power, total}
+use Rattle.field.specs.Field.{product, α, power, total}
 use Rattle.field.specs.Inside.{inverse}
 use Rattle.lanes.specs.Lanes.{lane}
 use Rattle.polynomial.specs.Sums.{weight}
-use Rattle.code.specs.Word.{nowhere}
+use Rattle.polynomial.specs.Polynomial.{polyAt}
+use Rattle.code.specs.Word.{nowhere, listed}
 use Rattle.code.specs.Inside.{Ends}
 use Rattle.mender.specs.declared.values.Ahead.{Ahead}
 use Rattle.mender.specs.declared.values.Pattern.{Pattern}
@@ -46,9 +47,8 @@ pub record PlacesFrom (roots l r : ℕ) : Type 0 where
 -- ---- a fraction: two polynomials of five coefficients each, in the ten lanes of one number
 
 -- f m + x (f (m + 1) + x (..)), n terms
-unfoldable pub evaluated : ℕ → ℕ → (ℕ → ℕ) → ℕ → ℕ
-evaluated zero m f x = 0
-evaluated (suc n) m f x = sum (f m) (product x (evaluated n (suc m) f x))
+abbrev pub evaluated : ℕ → ℕ → (ℕ → ℕ) → ℕ → ℕ
+evaluated n m f x = polyAt (listed f m n) x
 
 -- at x, the numerator, in lanes 0 to 4, and the denominator, in the lanes after them
 unfoldable pub numeratorAt : ℕ → ℕ → ℕ

@@ -5,15 +5,15 @@ ghost use Prim.Native.Nat.{min, _/_, _<_, _≤_};
 ghost use lib.ListN.{length};
 ghost use Rattle.refusal.specs.Promise.{Tells};
 ghost use Rattle.code.specs.Word.{added};
-ghost use Rattle.code.specs.Held.{eleven};
+ghost use Rattle.sums.specs.Held.{eleven};
 ghost use Rattle.mender.specs.Mender.{MendsTo, Mends, NearestWith, NearestClean};
 ghost use Rattle.mender.specs.Found.{lone, OneError, ElementsTo, Clear, Repairs, sixth};
 ghost use Rattle.mender.specs.Inside.{Agree, Nothing};
-use code::Eleven;
 use lanes::FIVE_LANES;
 use lanes::NINE_LANES;
 use lanes::SIX_LANES;
 use lanes::TEN_LANES;
+use sums::Sums;
 
 mod rows;
 mod values;
@@ -47,11 +47,11 @@ pub fn mend(sums: [u8; 11], c: usize, e: usize) -> Mended
     if !elements_to(sums, most) {
         return nothing();
     }
-    find(code::packed(sums), most, errors)
+    find(sums::packed(sums), most, errors)
 }
 
 // The same from all eleven sums, packed.
-pub fn mend_eleven(sums: Eleven, e: usize) -> Mended
+pub fn mend_eleven(sums: Sums, e: usize) -> Mended
     ensures { λ r. ⌜ Mends (eleven sums) 11 e r ⌝ }
 {
     find(sums, 11, least(e, 5))
@@ -64,18 +64,18 @@ pub fn nearest(word: &[u8], sums: [u8; 11], e: usize) -> Mended
     if word.len() != 63 {
         return nothing();
     }
-    if !code::in_range(word) {
+    if !eights::all_low(word) {
         return nothing();
     }
     if !elements_to(sums, 11) {
         return nothing();
     }
-    let differences = code::eleven_added(code::eleven_sums(word), code::packed(sums));
+    let differences = sums::eleven_added(sums::eleven_sums(word), sums::packed(sums));
     repaired(word, differences, least(e, 5))
 }
 
 // A word without the at most e errors that have these sums. No error and one are told at once, since nearly all words have no more.
-fn repaired(word: &[u8], sums: Eleven, e: usize) -> Mended
+fn repaired(word: &[u8], sums: Sums, e: usize) -> Mended
     requires { ⌜ length (now word) ≡ 63 ⌝ }
     requires { ⌜ e ≤ 5 ⌝ }
     ensures { λ r. ⌜ Repairs (eleven sums) (now (word .entry)) e r ⌝ }
@@ -120,7 +120,7 @@ fn repaired(word: &[u8], sums: Eleven, e: usize) -> Mended
 }
 
 // Whether eleven sums are all 0.
-fn all_zero(sums: Eleven) -> bool
+fn all_zero(sums: Sums) -> bool
     ensures { λ r. ⌜ Tells (Clear (eleven sums)) r ⌝ }
 {
     if sums.first % TEN_LANES != 0 {
@@ -189,7 +189,7 @@ fn nothing() -> Mended
 // The word of at most e errors with these c sums. The locator that five windows leave is held against a sixth where there is one, which nearly
 // every locator of too many errors fails; the pattern found is weighed, and its sums are taken again: what passes is the word, and where one
 // fails there is none.
-fn find(s: Eleven, c: usize, e: usize) -> Mended
+fn find(s: Sums, c: usize, e: usize) -> Mended
     requires { ⌜ (c ≤ 11) × (e ≤ c / 2) ⌝ }
     ensures { λ r. ⌜ MendsTo (eleven s) c e r ⌝ }
 {
@@ -204,13 +204,13 @@ fn find(s: Eleven, c: usize, e: usize) -> Mended
             return nothing();
         }
     }
-    let sums = code::unpacked(s);
+    let sums = sums::unpacked(s);
     let pattern = values::values_at_roots(row, rows::coefficients(row), sums, least(c - c / 2, 5));
     if pattern.weight as usize > e {
         return nothing();
     }
     let w = pattern.word;
-    let t = code::power_sums(&w);
+    let t = sums::power_sums(&w);
     if !agree(sums, t, c) {
         return nothing();
     }
@@ -224,7 +224,7 @@ fn find(s: Eleven, c: usize, e: usize) -> Mended
 }
 
 // Whether a row combines the sixth window to 0.
-fn sixth_window(x: u64, s: Eleven) -> bool
+fn sixth_window(x: u64, s: Sums) -> bool
     ensures { λ r. ⌜ Tells (sixth x (eleven s) ≡ 0) r ⌝ }
 {
     let window = s.first / FIVE_LANES % FIVE_LANES + (s.last % 64) as u64 * FIVE_LANES;
@@ -264,7 +264,7 @@ fn word_added(word: &[u8], pattern: [u8; 63]) -> [u8; 63]
 }
 
 // The one error whose sums these are, if it is one: then each sum is the one before it times the place, and S_0 is the value.
-fn lone_error(s: Eleven) -> Single
+fn lone_error(s: Sums) -> Single
     ensures { λ r. ⌜ OneError (eleven s) r ⌝ }
 {
     let value = (s.first / FIVE_LANES % 64) as u8;

@@ -75,7 +75,7 @@ fn read_text(text: &[u8], room: usize) -> TextReading
     if room < ROOM {
         return TextReading::Refused(Refusal::OutputLength);
     }
-    if !code::in_range(text) {
+    if !eights::all_low(text) {
         return TextReading::Refused(Refusal::ValueOver);
     }
     of_kind(text[0])

@@ -5,10 +5,12 @@ use Prim.Native.Nat.{ℕ, zero, suc, _+_, _%_, _<_, _≤_}
 use native.Mathlib.Nat.{add-zero, add-suc}
 use native.Mathlib.Omega.{arith}
 use lib.Bits.{bitXor}
-use lib.ListN.{length, getD, take, length-append}
+use lib.ListN.{length, getD, take}
 use lib.Seq.{take-suc, take-all}
 use Rattle.field.specs.Field.{sum, timesX, shifted, product, power}
 use Rattle.field.proofs.Laws
+use Rattle.polynomial.specs.Polynomial.{valueAt}
+use Rattle.polynomial.proofs.Horner
 use Rattle.lanes.specs.Lanes.{pack, lane}
 use Rattle.lanes.proofs.Laws as Lanes
 use Rattle.terms.specs.Terms.{point, term}
@@ -22,34 +24,24 @@ term-lt n c i = Laws.product-lt c (power (point i) n)
 
 pub value-lt : (cs : List ℕ) (i : ℕ) → value cs i < 64
 unfolding value
-value-lt [] i = omega arith
-value-lt (c ∷ cs) i = Laws.sum-lt (term (length cs) c i) (value cs i) (term-lt (length cs) c i) (value-lt cs i)
+value-lt cs i = Horner.value-lt (point i) cs
 
 -- r has the terms of a character c, s the values of the n characters after it
 pub more-terms : (c r s : ℕ) (cs : List ℕ) (n : ℕ) → r ≡ pack 10 (term n c) → length cs ≡ n → s ≡ pack 10 (value cs) → bitXor r s ≡ pack 10 (value (c ∷ cs))
-unfolding value
+unfolding value valueAt term
 more-terms c r s cs n e l q =
     ap₂ bitXor e q ∙ Lanes.xor-pack 10 (term n c) (value cs) (term-lt n c) (value-lt cs)
     ∙ ap (λ (m : ℕ). pack 10 (λ i. sum (term m c i) (value cs i))) (sym l)
 
 pub last-terms : (c r : ℕ) → r ≡ pack 10 (term 0 c) → r ≡ pack 10 (value (c ∷ []))
-unfolding value
+unfolding value valueAt term
 last-terms c r e = e ∙ Lanes.pack-same 10 (term 0 c) (λ i. sum (term 0 c i) 0) (λ i h. sym (Laws.sum-zero (term 0 c i)))
 
 -- ---- characters after others
 
-joined : (c a b s t : ℕ) → sum (product c (product a b)) (sum (product s b) t) ≡ sum (product (sum (product c a) s) b) t
-joined c a b s t = simp Laws.ring
-
 pub value-append : (us vs : List ℕ) (i : ℕ) → value (us ++ vs) i ≡ sum (product (value us i) (power (point i) (length vs))) (value vs i)
-unfolding value term
-value-append [] vs i =
-    sym (ap (λ (s : ℕ). sum s (value vs i)) (Laws.zero-product (power (point i) (length vs))) ∙ Laws.zero-sum (value vs i))
-value-append (u ∷ us) vs i =
-    ap₂ (λ (m s : ℕ). sum (product u m) s)
-    (ap (power (point i)) (length-append us vs) ∙ Laws.power-add (point i) (length us) (length vs))
-    (value-append us vs i)
-    ∙ joined u (power (point i) (length us)) (power (point i) (length vs)) (value us i) (value vs i)
+unfolding value
+value-append us vs i = Horner.value-append (point i) us vs
 
 -- ---- a word, a part after the other
 
@@ -89,7 +81,7 @@ pub record ValuesTo (w : List ℕ) (p i : ℕ) : Type 0 where
   pub is : p ≡ pack 10 (value (take i w))
 
 pub values-none : (w : List ℕ) → length w ≡ 63 → ValuesTo w 0 0
-unfolding pack value
+unfolding pack value valueAt
 values-none w h = record { long = h; most = omega arith; whole = refl; is = refl }
 
 module _ (w : List ℕ) (p i q r : ℕ) (h : i < 63) (v : ValuesTo w p i)

@@ -1,4 +1,5 @@
 -- The laws of sums at places and of polynomials, and the theorems that the decoder rests on.
+pub mod Horner
 pub mod Places
 pub mod Vandermonde
 pub mod Combining

@@ -1,15 +1,21 @@
--- Polynomials over the field, as lists of coefficients, the lowest first.
+-- Polynomials over the field, as lists of coefficients: the lowest first, and for the characters of a word the highest.
 use mathlib.Core.Path.{_≡_}
 use mathlib.Core.List.{List, [], _∷_}
 use Prim.Native.Nat.{ℕ, zero, suc, _<_}
-use lib.ListN.{getD}
-use Rattle.field.specs.Field.{sum, product}
+use lib.ListN.{length, getD}
+use Rattle.field.specs.Field.{sum, product, power}
 use Rattle.polynomial.specs.Sums.{moment}
 
 -- the value at x
 unfoldable pub polyAt : List ℕ → ℕ → ℕ
 polyAt [] x = 0
 polyAt (p ∷ ps) x = sum p (product x (polyAt ps x))
+
+-- and where the coefficients stand from the highest down, as the characters of a word do: `Horner.value-backward` leads from the one to the other;
+-- of each coefficient the low six bits count
+unfoldable pub valueAt : ℕ → List ℕ → ℕ
+valueAt x [] = 0
+valueAt x (c ∷ cs) = sum (product c (power x (length cs))) (valueAt x cs)
 
 -- every coefficient is an element
 abbrev pub Elements : List ℕ → Type 0

@@ -16,9 +16,9 @@ use Rattle.planes.specs.Slices.{bitAt}
 use Rattle.regular.specs.Pivots.{elementIn, sumIn}
 use Rattle.regular.specs.Promises.{NoErrorsWhere}
 use Rattle.code.specs.Word.{added, listed}
-use Rattle.code.specs.declared.Eleven.{Eleven}
-use Rattle.code.specs.Held.{eleven}
-use Rattle.code.proofs.Holding.{eleven-long, eleven-characters}
+use Rattle.sums.specs.declared.Sums.{Sums}
+use Rattle.sums.specs.Held.{eleven}
+use Rattle.sums.proofs.Holding.{eleven-long, eleven-characters}
 use Rattle.code.proofs.Words.{listed-get, added-get}
 use Rattle.mender.specs.Mender.{Fits}
 use Rattle.mender.proofs.Finding.{true-false}
@@ -53,7 +53,7 @@ pub undecided-backward : (u : Undecided) (k : ℕ) → 63 ≤ k → bitAt (u .ba
 unfolding undecidedAt
 undecided-backward u k h = ap (λ (b : Bool). cond b (bitAt (u .forward) k) (bitAt (u .backward) (k - 63))) (sym (le-ltb k 63 h))
 
-module _ (h : Eleven) (entries fw bw : List ℕ) (u : Undecided) (is : entries ≡ eleven h) (fm : MarksIn 0 fw) (bm : MarksIn 63 bw)
+module _ (h : Sums) (entries fw bw : List ℕ) (u : Undecided) (is : entries ≡ eleven h) (fm : MarksIn 0 fw) (bm : MarksIn 63 bw)
     (fn : NoErrorsWhere entries fw (u .forward)) (bn : NoErrorsWhere entries bw (u .backward)) where
   small : (k : ℕ) → getD entries k 0 < 64
   small k = subst (λ (s : List ℕ). getD s k 0 < 64) (sym is) (eleven-characters h k)

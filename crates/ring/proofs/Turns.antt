@@ -14,7 +14,7 @@ use Rattle.numbers.proofs.Cases.{le-or-lt}
 use Rattle.refusal.specs.Promise.{Tells}
 use Rattle.code.specs.Word.{added}
 use Rattle.code.specs.Inside.{PowerSums}
-use Rattle.code.specs.Held.{eleven}
+use Rattle.sums.specs.Held.{eleven}
 use Rattle.code.proofs.Words.{same-word}
 use Rattle.code.proofs.Turning.{turned-get, reversed-get}
 use Rattle.mender.specs.declared.Mended.{Mended}

@@ -5,7 +5,7 @@ use Prim.Native.Nat.{ℕ, _+_, _<_}
 use lib.ListN.{getD}
 use Rattle.regular.specs.Pivots.{elementIn}
 use Rattle.code.specs.Word.{powerSum}
-use Rattle.code.specs.Held.{eleven}
+use Rattle.sums.specs.Held.{eleven}
 use Rattle.ring.specs.declared.marks.AllMarks.{AllMarks}
 use Rattle.ring.specs.Inside.{marksAt, MarkSums}
 

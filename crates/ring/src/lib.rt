@@ -4,13 +4,13 @@ ghost use mathlib.Core.List.{[], _∷_};
 ghost use Prim.Native.Nat.{_<_};
 ghost use lib.ListN.{length};
 ghost use Rattle.refusal.specs.Promise.{Tells};
-ghost use Rattle.code.specs.Held.{eleven};
+ghost use Rattle.sums.specs.Held.{eleven};
 ghost use Rattle.ring.specs.Ring.{placed};
 ghost use Rattle.ring.specs.Promises.{listingNumbers, readingNumbers, Lists, ListsRing, ReadsRing};
 ghost use Rattle.ring.specs.Inside.{Listable, Mendable, placeOf};
 ghost use Rattle.ring.specs.Filter.{MayList, NoErrorsAt, Decides};
-use code::Eleven;
 use refusal::Refusal;
+use sums::Sums;
 
 mod marks;
 
@@ -47,7 +47,7 @@ pub fn list_ring(ring: &[u8], radius: u8, output: &mut [u8]) -> RingListing
     if output.len() != 126 {
         return RingListing::Refused(Refusal::OutputLength);
     }
-    if !code::in_range(ring) {
+    if !eights::all_low(ring) {
         return RingListing::Refused(Refusal::ValueOver);
     }
     if radius > 5 {
@@ -67,7 +67,7 @@ pub fn read_ring(ring: &[u8], radius: u8, output: &mut [u8]) -> RingReading
     if output.len() != 63 {
         return RingReading::Refused(Refusal::OutputLength);
     }
-    if !code::in_range(ring) {
+    if !eights::all_low(ring) {
         return RingReading::Refused(Refusal::ValueOver);
     }
     if radius > 5 {
@@ -103,7 +103,7 @@ fn list_starts(ring: &[u8], radius: u8, output: &mut [u8]) -> u8
     requires { ⌜ Listable (now ring) radius (length (now output)) ⌝ }
     ensures { λ r. ⌜ Lists (now (ring .entry)) radius (now (output .entry)) (r ∷ []) (now (output .exit)) ⌝ }
 {
-    let sums = code::eleven_sums(ring);
+    let sums = sums::eleven_sums(ring);
     let undecided = undecided_starts(sums);
     let marks = marks::all_marks();
     let firsts = marks.firsts;
@@ -111,11 +111,11 @@ fn list_starts(ring: &[u8], radius: u8, output: &mut [u8]) -> u8
     let mut count: u8 = 0;
     let mut start: u8 = 0;
     while start < 126 {
-        let here = Eleven {
+        let here = Sums {
             first: firsts[start as usize],
             last: lasts[start as usize],
         };
-        let listed = listable(undecided, start, code::eleven_added(sums, here), radius);
+        let listed = listable(undecided, start, sums::eleven_added(sums, here), radius);
         if listed {
             let at = count as usize;
             output[at] = start;
@@ -134,10 +134,10 @@ fn no_starts() -> [u8; 126]
 }
 
 // The starts that may be listed, from the ring's power sums.
-fn undecided_starts(sums: Eleven) -> Undecided
+fn undecided_starts(sums: Sums) -> Undecided
     ensures { λ r. ⌜ Decides (eleven sums) r ⌝ }
 {
-    let entries = code::unpacked(sums);
+    let entries = sums::unpacked(sums);
     Undecided {
         forward: regular::undecided(entries, marks::forward_words()),
         backward: regular::undecided(entries, marks::backward_words()),
@@ -162,7 +162,7 @@ fn is_undecided(undecided: Undecided, start: usize) -> bool
 }
 
 // Whether some errors, as many as the radius at most, have the power sums of a start.
-fn listable(undecided: Undecided, start: u8, sums: Eleven, radius: u8) -> bool
+fn listable(undecided: Undecided, start: u8, sums: Sums, radius: u8) -> bool
     requires { ⌜ start < 126 ⌝ }
     requires { ⌜ NoErrorsAt undecided start (eleven sums) ⌝ }
     ensures { λ r. ⌜ Tells (Mendable (eleven sums) radius) r ⌝ }
@@ -174,7 +174,7 @@ fn listable(undecided: Undecided, start: u8, sums: Eleven, radius: u8) -> bool
 }
 
 // Whether some errors, as many as the radius at most, have these power sums: the radius counts up to 5.
-fn mendable(sums: Eleven, radius: u8) -> bool
+fn mendable(sums: Sums, radius: u8) -> bool
     ensures { λ r. ⌜ Tells (Mendable (eleven sums) radius) r ⌝ }
 {
     let errors = mender::mend_eleven(sums, radius as usize);

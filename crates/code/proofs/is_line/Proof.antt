@@ -1,7 +1,7 @@
 -- `code::is_line` meets its contract: a line has 63 characters in range and the sums of the marks, and what has them is a line.
 use borrow.Author.Needs.{needs}
 use borrow.Author.Tests.{not-true, not-false}
-use Rattle.code.proofs.Turns.{wrong-length, wrong-characters, line-by-sums}
+use Rattle.code.proofs.Loops.{wrong-length, wrong-characters, line-by-sums}
 use Rattle.code.proofs.is_line.Statement.{statement}
 use Rattle.code.proofs.is_line.Tie as tie
 
@@ -21,7 +21,6 @@ is-line-spec =
     returns
     (λ c κs. search needs)
     returns-2
-    (λ c κs. search needs)
     (λ c κs. search needs)
     (λ c κs. search needs)
     returns-3)

@@ -1,7 +1,8 @@
 -- `code::mark_sums` meets its contract: the eleven numbers are compared with what Horner's rule gives at the marks.
 use Rattle.field.specs.Field.{sum, timesX, shifted, product, power}
 use Rattle.code.specs.Word.{marks, listed}
-use Rattle.code.proofs.Horner.{horner, horner-sums}
+use Rattle.polynomial.proofs.Horner.{horner}
+use Rattle.code.proofs.Sums.{horner-sums}
 use Rattle.code.proofs.mark_sums.Statement.{statement}
 use Rattle.code.proofs.mark_sums.Tie as tie
 

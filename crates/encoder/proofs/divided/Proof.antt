@@ -1,7 +1,7 @@
 -- A step of the division: the loop fills the places one by one, each with the one after it and its multiple of the generator, a lane, taken away.
 use borrow.Author.Needs.{needs}
 use Prim.Native.Nat.{_-_}
-use Rattle.encoder.proofs.Turns.{DividedTo, divided-none, divided-again, divided-all}
+use Rattle.encoder.proofs.Loops.{DividedTo, divided-none, divided-again, divided-all}
 use Rattle.encoder.proofs.divided.Statement.{statement}
 use Rattle.encoder.proofs.divided.Tie as tie
 

@@ -2,7 +2,7 @@
 use native.Mathlib.Omega.{arith}
 use borrow.Author.Needs.{needs}
 use Rattle.refusal.proofs.Ladder.{verdicts}
-use Rattle.encoder.proofs.Turns.{line-refused, line-written, the-line}
+use Rattle.encoder.proofs.Loops.{line-refused, line-written, the-line}
 use Rattle.encoder.proofs.encode_line.Statement.{statement}
 use Rattle.encoder.proofs.encode_line.Tie as tie
 

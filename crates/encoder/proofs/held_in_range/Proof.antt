@@ -1,7 +1,7 @@
 -- `encoder::held_in_range` meets its contract: one number over 63 among those passed makes their union over 63.
 use borrow.Author.Needs.{needs}
 use Prim.Native.Nat.{_-_}
-use Rattle.encoder.proofs.Turns.{AllTo, all-none, all-again, all-over, all-low}
+use Rattle.encoder.proofs.Loops.{AllTo, all-none, all-again, all-over, all-low}
 use Rattle.encoder.proofs.held_in_range.Statement.{statement}
 use Rattle.encoder.proofs.held_in_range.Tie as tie
 

@@ -1,6 +1,6 @@
 -- The text is copied and the two characters of the number are stored behind it.
 use borrow.Author.Needs.{needs}
-use Rattle.encoder.proofs.Turns.{information-copied}
+use Rattle.encoder.proofs.Loops.{information-copied}
 use Rattle.encoder.proofs.information_of.Statement.{statement}
 use Rattle.encoder.proofs.information_of.Tie as tie
 

@@ -1,6 +1,6 @@
 -- The marks are added one at a time, at the places of addresses 52, 55 and 62.
 use borrow.Author.Needs.{needs}
-use Rattle.encoder.proofs.Turns.{marked-is}
+use Rattle.encoder.proofs.Loops.{marked-is}
 use Rattle.encoder.proofs.marked.Statement.{statement}
 use Rattle.encoder.proofs.marked.Tie as tie
 

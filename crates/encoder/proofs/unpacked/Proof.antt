@@ -1,7 +1,7 @@
 -- `encoder::unpacked` meets its contract: the last check is stored, then a lane at each turn.
 use borrow.Author.Needs.{needs}
 use Prim.Native.Nat.{_-_}
-use Rattle.encoder.proofs.Turns.{UnpackedTo, unpacked-none, unpacked-again, unpacked-all}
+use Rattle.encoder.proofs.Loops.{UnpackedTo, unpacked-none, unpacked-again, unpacked-all}
 use Rattle.encoder.proofs.unpacked.Statement.{statement}
 use Rattle.encoder.proofs.unpacked.Tie as tie
 

@@ -1,6 +1,6 @@
 -- The output is written in two parts, which together are all of it.
 use borrow.Author.Needs.{needs}
-use Rattle.encoder.proofs.Turns.{both-written}
+use Rattle.encoder.proofs.Loops.{both-written}
 use Rattle.encoder.proofs.write_line.Statement.{statement}
 use Rattle.encoder.proofs.write_line.Tie as tie
 

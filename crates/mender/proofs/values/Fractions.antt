@@ -13,6 +13,7 @@ use Rattle.field.proofs.Laws
 use Rattle.field.proofs.Totals.{total-same, total-none, total-sum, total-scaled, total-front}
 use Rattle.polynomial.specs.Polynomial.{polyAt, over}
 use Rattle.polynomial.proofs.Division.{over-get, poly-past}
+use Rattle.code.specs.Word.{listed}
 use Rattle.mender.specs.Inside.{mixed, coef, valueOf}
 use Rattle.mender.specs.Values.{evaluated, inverseOrNone, Kills}
 use Rattle.mender.proofs.rows.Windows.{mixed-lt}
@@ -80,7 +81,7 @@ module _ (p s : List ℕ) (x : ℕ) (wide : length p ≡ 6) where
 
   -- by the coefficients, from the last down
   evaluated-from : (n d m : ℕ) (f : ℕ → ℕ) → d + m ≡ 5 → ((k : ℕ) → k < 5 → f k ≡ coefficient n k) → evaluated d m f x ≡ mixedFrom n m
-  unfolding evaluated
+  unfolding polyAt listed
   evaluated-from n zero m f e h = sym (ap (mixedFrom n) (sym (zero-add m) ∙ e) ∙ mixed-end n)
   evaluated-from n (suc d) m f e h =
       ap₂ sum (h m (omega arith)) (ap (product x) (evaluated-from n d (suc m) f (omega arith) h)) ∙ sym (mixed-step n m)
@@ -169,7 +170,7 @@ module _ (p s : List ℕ) (x : ℕ) (wide : length p ≡ 6) where
       ∙ two-steps (getD p (suc k) 0) x (tail (suc (suc k))) (slope (suc (suc k)))
 
   pub slope-is : (f : ℕ → ℕ) → f 0 ≡ getD p 1 0 → f 1 ≡ 0 → f 2 ≡ getD p 3 0 → f 3 ≡ 0 → f 4 ≡ getD p 5 0 → evaluated 5 0 f x ≡ polyAt (over p x) x
-  unfolding evaluated slope
+  unfolding polyAt listed slope
   slope-is f e0 e1 e2 e3 e4 =
       ap₂ (λ (a b : ℕ). sum a (product x b)) e0
       (ap₂ (λ (a b : ℕ). sum a (product x b)) e1

@@ -16,6 +16,8 @@ use Rattle.field.proofs.Laws
 use Rattle.field.proofs.Totals.{total-same, total-front}
 use Rattle.lanes.specs.Lanes.{pack, lane}
 use Rattle.lanes.proofs.Laws.{lane-lt, lane-zero, lane-suc, lane-xor}
+use Rattle.polynomial.specs.Polynomial.{polyAt}
+use Rattle.code.specs.Word.{listed}
 use Rattle.mender.specs.Values.{RootFrom, rootAfter, rootAt, PlacesFrom, evaluated, numeratorAt, denominatorAt, numeratorOf, NumeratorIn, Spread, BothAt, InversesIn, inverseOrNone, Raised}
 use Rattle.mender.proofs.rows.Weaving.{lane-none}
 use Rattle.mender.proofs.values.Lanes.{low-lanes, products-lane, scale-lane, pushed-below, pushed-more, joined-low, joined-high}
@@ -124,11 +126,11 @@ pub record BothTo (f x y r m : ℕ) : Type 0 where
   pub under : (j : ℕ) → j < 5 → lane r (5 + j) ≡ evaluated (5 - m) m (λ k. lane f (5 + k)) (lane x j)
 
 pub both-none : (f x : ℕ) → x < 1073741824 → BothTo f x (x + x * 1073741824) 0 5
-unfolding evaluated
+unfolding polyAt listed
 both-none f x h = record { most = omega arith; small = h; twice = refl; above = λ j l. lane-none j; under = λ j l. lane-none (5 + j) }
 
 evaluated-more : (m v u x : ℕ) (g : ℕ → ℕ) → m < 5 → u ≡ evaluated (5 - suc m) (suc m) g x → v ≡ g m → sum (product x u) v ≡ evaluated (5 - m) m g x
-unfolding evaluated
+unfolding polyAt listed
 evaluated-more m v u x g l e q =
     let d : 5 - m ≡ suc (5 - suc m) = omega arith in
     Laws.sum-comm (product x u) v ∙ ap₂ (λ (a b : ℕ). sum a (product x b)) q e ∙ sym (ap (λ (n : ℕ). evaluated n m g x) d)

@@ -2,7 +2,7 @@
 use borrow.Author.Needs.{needs}
 use mathlib.Core.Logic.{⊎-elim}
 use Prim.Native.Nat.{_-_}
-use Rattle.code.specs.Held.{eleven}
+use Rattle.sums.specs.Held.{eleven}
 use Rattle.ring.specs.Marks.{MarksAtAll}
 use Rattle.ring.specs.Filter.{Decides}
 use Rattle.ring.proofs.Turns.{ListedTo, no-errors-here, listed-none, listed-one, listed-not, listed-all}

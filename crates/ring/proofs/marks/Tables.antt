@@ -15,9 +15,9 @@ use Rattle.field.specs.Field.{sum, timesX, shifted, product, α, power}
 use Rattle.field.proofs.Laws
 use Rattle.regular.specs.Pivots.{elementIn}
 use Rattle.code.specs.Word.{listed}
-use Rattle.code.specs.declared.Eleven.{Eleven}
-use Rattle.code.specs.Held.{elevenAt}
-use Rattle.code.proofs.Holding.{eleven-long, eleven-get}
+use Rattle.sums.specs.declared.Sums.{Sums}
+use Rattle.sums.specs.Held.{elevenAt}
+use Rattle.sums.proofs.Holding.{eleven-long, eleven-get}
 use Rattle.code.proofs.Words.{listed-long, listed-get}
 use Rattle.ring.specs.declared.marks.AllMarks.{AllMarks}
 use Rattle.ring.specs.Inside.{MarkSums, TurnedBack}
@@ -25,7 +25,7 @@ use Rattle.ring.specs.Marks.{MarksIn, marksOf, MarksAtAll}
 use Rattle.ring.proofs.marks.Marks.{next-sums}
 
 -- the eleven sums at a start
-abbrev pub elevenOf : AllMarks → ℕ → Eleven
+abbrev pub elevenOf : AllMarks → ℕ → Sums
 elevenOf m k = record { first = getD (m .firsts) k 0; last = getD (m .lasts) k 0 }
 
 -- ---- the words

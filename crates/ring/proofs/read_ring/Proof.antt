@@ -10,7 +10,7 @@ use Rattle.ring.proofs.read_ring.Tie as tie
 list-starts-requires : tie.Need-list-starts-requires
 list-starts-requires c κs =
     let tests = c .before .before .before in
-    listable _ _ _ (omega arith) (told-yes (tests .before .in-range .ensures) (tests .if3 .left)) (omega arith) (omega arith)
+    listable _ _ _ (omega arith) (told-yes (tests .before .all-low .ensures) (tests .if3 .left)) (omega arith) (omega arith)
 
 returns-6 : tie.Need-returns-6
 returns-6 c =

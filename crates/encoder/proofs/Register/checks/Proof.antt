@@ -2,7 +2,7 @@
 use native.Mathlib.Omega.{arith}
 use borrow.Author.Needs.{needs}
 use Rattle.refusal.proofs.Ladder.{_then_, denied, verdicts}
-use Rattle.encoder.proofs.Turns.{asking-refused, checks-given}
+use Rattle.encoder.proofs.Loops.{asking-refused, checks-given}
 use Rattle.encoder.proofs.Register.checks.Statement.{statement}
 use Rattle.encoder.proofs.Register.checks.Tie as tie
 

@@ -2,7 +2,7 @@
 use native.Mathlib.Omega.{arith}
 use borrow.Author.Needs.{needs}
 use Rattle.refusal.proofs.Ladder.{denied, verdicts}
-use Rattle.encoder.proofs.Turns.{step-answered, step-refused, step-taken}
+use Rattle.encoder.proofs.Loops.{step-answered, step-refused, step-taken}
 use Rattle.encoder.proofs.Register.step.Statement.{statement}
 use Rattle.encoder.proofs.Register.step.Tie as tie
 

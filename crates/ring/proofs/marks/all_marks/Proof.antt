@@ -3,8 +3,9 @@ use mathlib.Core.Path.{refl}
 use Rattle.field.specs.Field.{sum, timesX, shifted, product, power}
 use Rattle.lanes.specs.Lanes.{lane}
 use Rattle.code.specs.Word.{marks, listed, reversed}
-use Rattle.code.specs.Held.{elevenAt, eleven}
-use Rattle.code.proofs.Horner.{horner, horner-sums}
+use Rattle.sums.specs.Held.{elevenAt, eleven}
+use Rattle.polynomial.proofs.Horner.{horner}
+use Rattle.code.proofs.Sums.{horner-sums}
 use Rattle.ring.proofs.marks.Marks.{first-marks, backward-begins}
 use Rattle.ring.proofs.marks.Tables.{backs, turnedAll, marks-at-all}
 use Rattle.ring.proofs.marks.all_marks.Statement.{statement}

@@ -3,7 +3,8 @@ use native.Mathlib.Omega.{arith}
 use Rattle.field.specs.Field.{sum, timesX, shifted, product, power}
 use Rattle.regular.specs.Pivots.{elementIn}
 use Rattle.code.specs.Word.{marks, listed}
-use Rattle.code.proofs.Horner.{horner, horner-sums}
+use Rattle.polynomial.proofs.Horner.{horner}
+use Rattle.code.proofs.Sums.{horner-sums}
 use Rattle.ring.proofs.marks.Marks.{first-marks}
 use Rattle.ring.proofs.marks.Tables.{backs, sumsIn, turnedIn, marks-in}
 use Rattle.ring.proofs.marks.forward_words.Statement.{statement}

@@ -1,9 +1,9 @@
--- `code::unpacked` meets its contract: the sums passed are in place, and p holds those after them.
+-- `sums::unpacked` meets its contract: the sums passed are in place, and p holds those after them.
 use borrow.Author.Needs.{needs}
 use Prim.Native.Nat.{_-_}
-use Rattle.code.proofs.Holding.{UnpackedTo, unpacked-none, unpacked-again, unpacked-all, unpacked-long}
-use Rattle.code.proofs.unpacked.Statement.{statement}
-use Rattle.code.proofs.unpacked.Tie as tie
+use Rattle.sums.proofs.Loops.{UnpackedTo, unpacked-none, unpacked-again, unpacked-all, unpacked-long}
+use Rattle.sums.proofs.unpacked.Statement.{statement}
+use Rattle.sums.proofs.unpacked.Tie as tie
 
 abbrev Inv-loop : tie.InvT-loop
 Inv-loop sums s₀ p₀ k₀ s p k = UnpackedTo sums s p k

@@ -1,8 +1,8 @@
--- `code::character` meets its contract: past the end a list has 0.
+-- `sums::character` meets its contract: past the end a list has 0.
 use borrow.Author.Needs.{needs}
-use Rattle.code.proofs.Turns.{past-end}
-use Rattle.code.proofs.character.Statement.{statement}
-use Rattle.code.proofs.character.Tie as tie
+use Rattle.sums.proofs.Loops.{past-end}
+use Rattle.sums.proofs.character.Statement.{statement}
+use Rattle.sums.proofs.character.Tie as tie
 
 returns-2 : tie.Need-returns-2
 returns-2 c = search (past-end, needs)

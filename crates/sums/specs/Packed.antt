@@ -4,8 +4,8 @@ use mathlib.Core.List.{List}
 use Prim.Native.Nat.{ℕ, _+_, _/_, _<_}
 use lib.ListN.{length, getD}
 use Rattle.lanes.specs.Lanes.{pack}
-use Rattle.code.specs.declared.PackedSums.{PackedSums}
+use Rattle.sums.specs.declared.PackedSums.{PackedSums}
 use Rattle.code.specs.Word.{powerSum}
 
 -- S_-5 to S_-1 and S_1 to S_5, modulo 63 those from 58 to 62 and from 64 to 68, are packed, and S_0, that of 63, stands beside them
 pub record Packed (w : List ℕ) (r : PackedSums) : Type 0 where

@@ -1,8 +1,8 @@
--- `code::packed` meets its contract: the sums from k on are packed.
+-- `sums::packed` meets its contract: the sums from k on are packed.
 use borrow.Author.Needs.{needs}
-use Rattle.code.proofs.Holding.{PackedFrom, packed-none, packed-fits, packed-adds, packed-again, packed-all}
-use Rattle.code.proofs.packed.Statement.{statement}
-use Rattle.code.proofs.packed.Tie as tie
+use Rattle.sums.proofs.Loops.{PackedFrom, packed-none, packed-fits, packed-adds, packed-again, packed-all}
+use Rattle.sums.proofs.packed.Statement.{statement}
+use Rattle.sums.proofs.packed.Tie as tie
 
 abbrev Inv-loop : tie.InvT-loop
 Inv-loop sums p₀ k₀ p k = PackedFrom sums p k

@@ -5,14 +5,14 @@ use Prim.Native.Nat.{ℕ, _%_}
 use lib.Dec.{ltb}
 use lib.ListN.{getD}
 use Rattle.lanes.specs.Lanes.{lane}
-use Rattle.code.specs.declared.Eleven.{Eleven}
+use Rattle.sums.specs.declared.Sums.{Sums}
 use Rattle.code.specs.Word.{listed}
 
 -- number k of them, S_-5 first; of the last the low six bits count
-unfoldable pub elevenAt : Eleven → ℕ → ℕ
+unfoldable pub elevenAt : Sums → ℕ → ℕ
 elevenAt h k = cond (ltb k 10) (lane (h .first) k) (h .last % 64)
 
-unfoldable pub eleven : Eleven → List ℕ
+unfoldable pub eleven : Sums → List ℕ
 eleven h = listed (elevenAt h) 0 11
 
 -- eleven numbers, the low six bits of each

@@ -1,9 +1,9 @@
--- `code::filled` meets its contract: each loop keeps that the characters passed are in place.
+-- `sums::filled` meets its contract: each loop keeps that the characters passed are in place.
 use Prim.Native.Nat.{_-_}
 use borrow.Author.Needs.{needs}
-use Rattle.code.proofs.Packing.{FilledTo, filled-none, filled-again, filled-all}
-use Rattle.code.proofs.filled.Statement.{statement}
-use Rattle.code.proofs.filled.Tie as tie
+use Rattle.sums.proofs.Loops.{FilledTo, filled-none, filled-again, filled-all}
+use Rattle.sums.proofs.filled.Statement.{statement}
+use Rattle.sums.proofs.filled.Tie as tie
 
 abbrev Inv-loop : tie.InvT-loop
 Inv-loop word v₀ a₀ v a = FilledTo word v a

@@ -4,9 +4,11 @@ use mathlib.Core.List.{List}
 use Prim.Native.Nat.{ℕ, zero, suc, _+_, _-_, _%_, _<_}
 use native.Mathlib.Omega.{arith}
 use lib.ListN.{getD}
-use Rattle.field.specs.Field.{sum, product, α, power, total}
+use Rattle.numbers.specs.Total.{total}
+use Rattle.field.specs.Field.{sum, product, α, power}
 use Rattle.field.proofs.Laws
-use Rattle.field.proofs.Totals.{total-same, total-scaled}
+use Rattle.numbers.proofs.Totals.{total-same}
+use Rattle.field.proofs.Totals.{total-scaled}
 use Rattle.code.specs.Word.{listed}
 use Rattle.code.specs.Inside.{PowerSums, wordAt}
 use Rattle.code.proofs.Words.{listed-long, listed-get}
@@ -18,7 +20,7 @@ horner x w zero = 0
 horner x w (suc n) = sum (product (horner x w n) x) (getD w n 0 % 64)
 
 horner-total : (x : ℕ) (w : List ℕ) (n : ℕ) → horner x w n ≡ total n (λ a. product (getD w a 0) (power x (n - 1 - a)))
-unfolding horner total power
+unfolding horner total power sum
 horner-total x w zero = refl
 horner-total x w (suc n) =
     ap₂ sum

@@ -9,9 +9,10 @@ use lib.ListN.{length, getD, set, length-set}
 use lib.Seq.{getD-set-same, getD-set-other}
 use borrow.Author.Count.{below-none, below-more}
 use Rattle.numbers.proofs.Cases.{le-or-lt, same-or-not}
-use Rattle.field.specs.Field.{sum, product, α, power, total}
+use Rattle.numbers.specs.Total.{total}
+use Rattle.field.specs.Field.{sum, product, α, power}
 use Rattle.field.proofs.Laws
-use Rattle.field.proofs.Totals.{total-same}
+use Rattle.numbers.proofs.Totals.{total-same}
 use Rattle.lanes.specs.Lanes.{pack, lane}
 use Rattle.lanes.proofs.Laws as Lanes
 use Rattle.terms.specs.Terms.{point, term}
@@ -36,7 +37,7 @@ outer-sum w h i = value-valueAt w i ∙ sym (powerSum-value (58 + i + i / 5) w h
 -- ---- S_0
 
 total-low : (n : ℕ) (f : ℕ → ℕ) → total n f % 64 ≡ total n (λ a. f a % 64)
-unfolding total
+unfolding total sum
 total-low zero f = refl
 total-low (suc n) f = Laws.sum-low (total n f) (f n) ∙ ap (λ (t : ℕ). sum t (f n % 64)) (total-low n f)
 

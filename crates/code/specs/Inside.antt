@@ -3,7 +3,8 @@ use mathlib.Core.Path.{_≡_}
 use mathlib.Core.List.{List}
 use Prim.Native.Nat.{ℕ, _+_, _-_, _<_}
 use lib.ListN.{length, getD}
-use Rattle.field.specs.Field.{product, power, total}
+use Rattle.numbers.specs.Total.{total}
+use Rattle.field.specs.Field.{product, power}
 use Rattle.code.specs.Word.{powerSum, firstChanged, lastChanged}
 
 -- the eleven power sums of a word, S_-5 first

@@ -7,12 +7,11 @@ use native.Mathlib.Nat.{add-zero, add-suc, add-assoc, zero-add}
 use native.Mathlib.Decide.{decLt}
 use native.Mathlib.Omega.{arith}
 use borrow.Author.Count.{below-none}
-use lib.Bits.{bitXor, bitOr}
+use lib.Bits.{bitXor, bitOr, xor-zero-r}
 use lib.ListN.{length, getD, List·getD-eq-default}
 use Rattle.refusal.specs.Promise.{Tells}
-use Rattle.field.specs.Field.{sum, total}
-use Rattle.field.proofs.Laws as Field
-use Rattle.field.proofs.Totals.{total-same, total-none, total-sum}
+use Rattle.numbers.specs.Total.{total}
+use Rattle.numbers.proofs.Totals.{total-same, total-none, total-xor, total-append}
 use Rattle.eights.specs.Low.{Low}
 use Rattle.eights.specs.Inside.{byte, Holds, eightFrom, LowEight}
 use Rattle.eights.proofs.Laws.{byte-shift, byte-xor, none-byte, low-both, low-left, low-right}
@@ -107,21 +106,14 @@ low-few w met r h s = same-tells (λ f a. low-after w 0 met s (omega arith) f a 
 
 -- ---- the exclusive or
 
-total-append : (m n : ℕ) (f : ℕ → ℕ) → total (m + n) f ≡ sum (total m f) (total n (λ k. f (m + k)))
-unfolding total
-total-append m zero f = ap (λ (i : ℕ). total i f) (add-zero m) ∙ sym (Field.sum-zero (total m f))
-total-append m (suc n) f =
-    ap (λ (i : ℕ). total i f) (add-suc m n) ∙ ap (λ (t : ℕ). sum t (f (m + n))) (total-append m n f)
-    ∙ Field.sum-assoc (total m f) (total n (λ k. f (m + k))) (f (m + n))
-
 -- what is past the end adds nothing
 total-past : (w : List ℕ) (i : ℕ) → length w ≤ i → total i (λ a. getD w a 0) ≡ total (length w) (λ a. getD w a 0)
 total-past w i h =
     let e : i ≡ length w + (i - length w) = omega arith in
     ap (λ (m : ℕ). total m (λ a. getD w a 0)) e ∙ total-append (length w) (i - length w) (λ a. getD w a 0)
-    ∙ ap (sum (total (length w) (λ a. getD w a 0)))
+    ∙ ap (bitXor (total (length w) (λ a. getD w a 0)))
     (total-none (i - length w) (λ k. getD w (length w + k) 0) (λ k l. sym (past-end w (length w + k) (omega arith))))
-    ∙ Field.sum-zero (total (length w) (λ a. getD w a 0))
+    ∙ xor-zero-r (total (length w) (λ a. getD w a 0))
 
 pub record XorTo (w : List ℕ) (i z : ℕ) : Type 0 where
   pub most : i < length w
@@ -134,8 +126,8 @@ xor-start w h = record { most = omega arith; passed = total-none 8 (byte 0) (λ 
 pub eight-more : (w : List ℕ) (i z n : ℕ) → total 8 (byte z) ≡ total i (λ a. getD w a 0) → ((k : ℕ) → k < 8 → byte n k ≡ getD w (i + k) 0)
     → total 8 (byte (bitXor z n)) ≡ total (i + 8) (λ a. getD w a 0)
 eight-more w i z n e f =
-    total-same 8 (byte (bitXor z n)) (λ k. sum (byte z k) (byte n k)) (λ k l. byte-xor z n k) ∙ total-sum 8 (byte z) (byte n)
-    ∙ ap₂ sum e (total-same 8 (byte n) (λ k. getD w (i + k) 0) f) ∙ sym (total-append i 8 (λ a. getD w a 0))
+    total-same 8 (byte (bitXor z n)) (λ k. bitXor (byte z k) (byte n k)) (λ k l. byte-xor z n k) ∙ total-xor 8 (byte z) (byte n)
+    ∙ ap₂ bitXor e (total-same 8 (byte n) (λ k. getD w (i + k) 0) f) ∙ sym (total-append i 8 (λ a. getD w a 0))
 
 pub xor-again : (w : List ℕ) (i z n : ℕ) → XorTo w i z → i + 8 < length w → Holds (eightFrom w i) n → XorTo w (i + 8) (bitXor z n)
 xor-again w i z n t h s = record { most = h; passed = eight-more w i z n (t .passed) (holds-at w i n s) }

@@ -4,7 +4,7 @@ ghost use mathlib.Core.List.{[], _∷_};
 ghost use Prim.Native.Nat.{_+_, _≤_};
 ghost use lib.ListN.{length, getD};
 ghost use Rattle.refusal.specs.Promise.{Tells};
-ghost use Rattle.field.specs.Field.{total};
+ghost use Rattle.numbers.specs.Total.{total};
 ghost use Rattle.eights.specs.Low.{Low};
 ghost use Rattle.eights.specs.Inside.{byte, Holds, eightFrom, LowEight};
 

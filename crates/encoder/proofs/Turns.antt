@@ -12,7 +12,8 @@ use lib.Dec.{T, eqb, eqb→eq}
 use lib.ListN.{length, getD, set, take, drop, replicate, length-append, length-take, length-drop, length-set, List·getD-eq-default, drop-of-length-le}
 use lib.Seq.{ext-getD, getD-set-same, getD-set-other, take-length, take-at, set-at}
 use Rattle.numbers.proofs.Range.{each, each-at}
-use Rattle.field.specs.Field.{sum, product, total}
+use Rattle.numbers.specs.Total.{total}
+use Rattle.field.specs.Field.{sum, product}
 use Rattle.field.proofs.Laws
 use Rattle.lanes.specs.Lanes.{pack, lane}
 use Rattle.lanes.proofs.Laws.{lane-zero, lane-suc, lane-pack}

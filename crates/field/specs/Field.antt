@@ -37,8 +37,3 @@ pub record Quotient (u v w : ℕ) : Type 0 where
   pub divisor : 0 < v
   pub element : w < 64
   pub exact : product v w ≡ u
-
--- f 0 + f 1 + .. + f (n - 1)
-unfoldable pub total : ℕ → (ℕ → ℕ) → ℕ
-total zero f = 0
-total (suc n) f = sum (total n f) (f n)

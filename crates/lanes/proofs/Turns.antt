@@ -7,7 +7,8 @@ use native.Mathlib.Omega.{arith}
 use lib.Bits.{bitXor, bitAnd, and-mask, and-high, and-comm, and-le-r, and-zero-l}
 use Rattle.numbers.proofs.Cases.{bit-cases}
 use Rattle.numbers.proofs.Xor.{xor-assoc}
-use Rattle.field.specs.Field.{sum, timesX, shifted, product, total}
+use Rattle.numbers.specs.Total.{total}
+use Rattle.field.specs.Field.{sum, timesX, shifted, product}
 use Rattle.field.proofs.Laws
 use Rattle.lanes.specs.Lanes.{pack, lane}
 use Rattle.lanes.proofs.Laws.{lane-lt, lane-zero, lane-suc, pack-same, pack-lt, low-pack, lane-pack, pack-lanes, xor-pack, and-lanes, times-pack}
@@ -224,7 +225,7 @@ unfolding total
 summed-none p = record { most = omega arith; after = λ k. ap (lane p) (sym (zero-add k)); done = refl }
 
 pub summed-again : (p q s i : ℕ) → i < 10 → SummedTo p q s i → SummedTo p (q / 64) (bitXor s (q % 64)) (i + 1)
-unfolding total sum
+unfolding total
 summed-again p q s i h l =
     record {
       most = omega arith;

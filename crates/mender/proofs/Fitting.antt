@@ -9,10 +9,12 @@ use lib.ListN.{getD, length, drop, List·getD-eq-default}
 use lib.Seq.{drop-cons}
 use borrow.Author.Tests.{eq-eqb, ne-eqb}
 use Rattle.numbers.proofs.Cases.{le-or-lt, same-or-not, pos-of-not-zero}
-use Rattle.field.specs.Field.{sum, product, α, power, total}
+use Rattle.numbers.specs.Total.{total}
+use Rattle.field.specs.Field.{sum, product, α, power}
 use Rattle.field.specs.Inside.{inverse}
 use Rattle.field.proofs.Laws
-use Rattle.field.proofs.Totals.{total-none, total-front}
+use Rattle.numbers.proofs.Totals.{total-none}
+use Rattle.field.proofs.Totals.{total-front}
 use Rattle.polynomial.specs.Sums.{moment, Places, Values, Zeros}
 use Rattle.polynomial.specs.Polynomial.{polyAt, combined, scaled, over, locator}
 use Rattle.polynomial.proofs.Places.{place-pos, place-lt}

@@ -8,9 +8,11 @@ use native.Mathlib.Omega.{arith}
 use lib.ListN.{getD, length, drop, List·getD-eq-default}
 use borrow.Author.Tests.{eq-eqb, ne-eqb}
 use Rattle.numbers.proofs.Cases.{same-or-not}
-use Rattle.field.specs.Field.{sum, product, power, total}
+use Rattle.numbers.specs.Total.{total}
+use Rattle.field.specs.Field.{sum, product, power}
 use Rattle.field.proofs.Laws
-use Rattle.field.proofs.Totals.{total-same, total-none, total-sum, total-scaled, total-front}
+use Rattle.numbers.proofs.Totals.{total-same, total-none}
+use Rattle.field.proofs.Totals.{total-sum, total-scaled, total-front}
 use Rattle.polynomial.specs.Polynomial.{polyAt, over}
 use Rattle.polynomial.proofs.Division.{over-get, poly-past}
 use Rattle.mender.specs.Inside.{mixed, coef, valueOf}
@@ -52,7 +54,7 @@ module _ (p s : List ℕ) (x : ℕ) (wide : length p ≡ 6) where
   coefficient n m = total 5 (λ k. product (getD p (suc (m + k)) 0) (getD s (n + k) 0))
 
   mixed-from : (n : ℕ) → mixed (coef (over p x)) s n ≡ mixedFrom n 0
-  unfolding mixed mixedFrom tail total
+  unfolding mixed mixedFrom tail total sum
   mixed-from n =
       ap₂ sum
       (total-same 5 (λ k. product (getD (over p x) k 0) (getD s (n + k) 0)) (λ k. product (tail (suc (0 + k))) (getD s (n + k) 0))

@@ -1,0 +1,2 @@
+-- The exclusive or of many numbers.
+pub mod Total

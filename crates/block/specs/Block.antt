@@ -63,3 +63,9 @@ Sevens given = (i : ℕ) → getD given i 0 ≤ 127
 pub record Holds (given block : List ℕ) : Type 0 where
   pub proper : Proper block
   pub rows : dataOf block ≡ given
+
+-- there is one and only one proper block with these data rows
+pub record OneBlock (given : List ℕ) : Type 0 where
+  pub block : List ℕ
+  pub holds : Holds given block
+  pub only : (other : List ℕ) → Holds given other → other ≡ block

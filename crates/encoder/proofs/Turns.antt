@@ -30,10 +30,10 @@ use Rattle.encoder.specs.Division.{remainder}
 use Rattle.encoder.specs.Register.{stepped, next, checksOf}
 use Rattle.encoder.specs.Promises.{encodingTests, LineWith, Encodes, stepNumbers, stepTests, Steps, checkTests, Checks}
 use Rattle.encoder.specs.Interpolation.{ChecksWith, eleven}
-use Rattle.encoder.specs.Inside.{information, encoded}
+use Rattle.encoder.specs.Inside.{information}
 use Rattle.encoder.proofs.Division.{below, lower}
 use Rattle.encoder.proofs.Stepping.{stepped-long, stepped-get, checks-are}
-use Rattle.encoder.proofs.Encoding.{information-long, information-characters, encoded-line}
+use Rattle.encoder.proofs.Encoding.{information-long, information-characters, encoded, encoded-line}
 use Rattle.encoder.proofs.Interpolation.{eleven-long, eleven-lane, eleven-last, all-eleven, checks-remainder}
 
 -- ---- a step of the division

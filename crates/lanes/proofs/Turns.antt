@@ -209,9 +209,6 @@ module _ (p q a b s i a′ : ℕ) (h : i < 6) (l : ProductsTo p q a b s i) (ea :
 pub products-all : (p q a b s i : ℕ) → 6 ≤ i → ProductsTo p q a b s i → s ≡ pack 10 (λ k. product (lane p k) (lane q k))
 products-all p q a b s i h l = lanes-all p (l .B) (lane q) a s i h (l .lanes-to)
 
-pub products-most : (p q a b s i : ℕ) → ProductsTo p q a b s i → i ≤ 6
-products-most p q a b s i l = l .lanes-to .most
-
 -- ---- the sum of the lanes
 
 -- i lanes are added, and q holds those after them

@@ -14,9 +14,9 @@ use Rattle.numbers.proofs.Range.{both, both-left, both-right, each, each-at, eq
 use Rattle.code.specs.Word.{marks, Line, distance}
 use Rattle.ring.specs.Ring.{placed, Those, end, listed, not-listed, ListOf}
 use Rattle.ring.specs.Inside.{seen}
-use Rattle.ring.specs.FalseStarts.{countedFrom, falseStarts, isIn, rising, recordedStarts}
+use Rattle.ring.specs.FalseStarts.{countedFrom, with-at, markDistances, falseStarts, isIn, rising, recordedStarts}
 use Rattle.ring.proofs.Placing.{seen-lt, seen-forward, seen-turning, seen-returning, seen-backward, seen-cases}
-use Rattle.ring.proofs.marks.Marks.{with-at, markDistances, mark-distance}
+use Rattle.ring.proofs.marks.Marks.{mark-distance}
 use Rattle.ring.proofs.Alone.{marks-of-start, start-of-marks}
 use Rattle.ring.proofs.Those.{those-same}
 

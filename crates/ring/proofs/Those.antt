@@ -1,13 +1,13 @@
 -- The numbers of a range that have a property, listed: there is one list, it holds them all and no others, it rises, and it falls into the lists of two ranges.
 use mathlib.Core.Path.{_≡_, refl, sym, ap, subst, subst₂}
-use mathlib.Core.Logic.{_⊎_, ⊎-elim}
+use mathlib.Core.Logic.{⊎-elim}
 use mathlib.Core.List.{List, [], _∷_, _++_}
 use Prim.Native.Nat.{ℕ, zero, suc, _+_, _<_, _≤_}
 use native.Mathlib.Nat.{eq-or-lt-of-le, not-suc-le-zero, le-of-suc-le-suc}
 use native.Mathlib.Omega.{arith}
 use lib.ListN.{length, getD}
 use Rattle.code.specs.Word as Word
-use Rattle.ring.specs.Ring.{Those, end, listed, not-listed}
+use Rattle.ring.specs.Ring.{Those, end, listed, not-listed, At}
 
 pub one-those : {P : ℕ → Type 0} {n k : ℕ} {a b : List ℕ} → Those P n k a → Those P n k b → a ≡ b
 one-those end end = refl
@@ -44,11 +44,6 @@ those-rise (listed p s) (suc i) (suc j) h l = those-rise s i j (le-of-suc-le-suc
 those-rise (not-listed p s) i j h l = those-rise s i j h l
 
 -- each number of the range that has the property is an entry
-pub record At (ks : List ℕ) (j : ℕ) : Type 0 where
-  pub place : ℕ
-  pub inside : place < length ks
-  pub is : getD ks place 0 ≡ j
-
 pub those-all : {P : ℕ → Type 0} {n k : ℕ} {ks : List ℕ} → Those P n k ks → (j : ℕ) → Entry P n k j → At ks j
 those-all end j e = absurd (omega arith)
 those-all (listed {k = k} {ks = ks} p s) j e =

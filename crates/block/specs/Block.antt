@@ -5,10 +5,11 @@ use Prim.Native.Nat.{ℕ, _+_, _-_, _/_, _%_, _^_, _<_, _≤_}
 use lib.ListN.{length, getD, take}
 use lib.Bits.{bitXor}
 use lib.Count.{onesIn}
+use Rattle.numbers.specs.Below.{AllBelow}
 
--- rows of eight bits; past the last row getD gives 0
+-- rows of eight bits
 abbrev pub Bytes : List ℕ → Type 0
-Bytes rows = (i : ℕ) → getD rows i 0 < 256
+Bytes = AllBelow 256
 
 -- R rows, 2 to 64, eight bits each
 pub record Block (rows : List ℕ) : Type 0 where

@@ -15,7 +15,7 @@ use Rattle.refusal.specs.Promise.{Tells}
 use Rattle.numbers.proofs.Range.{each, each-at}
 use Rattle.numbers.specs.Total.{total}
 use Rattle.numbers.proofs.Xor.{xors}
-use Rattle.eights.specs.Inside.{byte, Holds, LowEight}
+use Rattle.eights.specs.Inside.{byte, HoldsBytes, LowEight}
 
 byte-lt : (n k : ℕ) → byte n k < 256
 unfolding byte
@@ -68,7 +68,7 @@ byte-joined (c ∷ cs) h (suc k) =
 
 pub eight-holds : (a b c d e f g h n : ℕ) → a < 256 → b < 256 → c < 256 → d < 256 → e < 256 → f < 256 → g < 256 → h < 256
     → n ≡ a + b * 256 + c * 65536 + d * 16777216 + e * 4294967296 + f * 1099511627776 + g * 281474976710656 + h * 72057594037927936
-    → Holds (a ∷ b ∷ c ∷ d ∷ e ∷ f ∷ g ∷ h ∷ []) n
+    → HoldsBytes (a ∷ b ∷ c ∷ d ∷ e ∷ f ∷ g ∷ h ∷ []) n
 unfolding joined
 eight-holds a b c d e f g h n la lb lc ld le lf lg lh q =
     let cs : List ℕ = a ∷ b ∷ c ∷ d ∷ e ∷ f ∷ g ∷ h ∷ [] in

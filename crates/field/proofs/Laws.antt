@@ -110,7 +110,8 @@ shifted-sum (suc n) a c b =
     ap₂ sum (bit-sum b a c) (ap (λ (x : ℕ). shifted n x (b / 2)) (timesX-sum a c) ∙ shifted-sum n (timesX a) (timesX c) (b / 2))
     ∙ sum-four (b % 2 * a) (b % 2 * c) (shifted n (timesX a) (b / 2)) (shifted n (timesX c) (b / 2))
 
-shifted-timesX : (n a b : ℕ) → shifted n (timesX a) b ≡ timesX (shifted n a b)
+-- x first or last is the same
+pub shifted-timesX : (n a b : ℕ) → shifted n (timesX a) b ≡ timesX (shifted n a b)
 unfolding shifted
 shifted-timesX zero a b = sym timesX-zero
 shifted-timesX (suc n) a b =

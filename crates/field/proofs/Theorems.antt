@@ -18,7 +18,7 @@ use Rattle.field.specs.Field.{sum, timesX, shifted, product, α, power, 
 use Rattle.field.specs.Inside.{lookedUp, Products, inverse}
 use Rattle.field.specs.Promises.{elementNumbers, Operands, operandTests, divisionTests, OneValue, Operates, Sums, Multiplies, Divides}
 use Rattle.field.proofs.Laws
-use Rattle.field.proofs.Turns.{refused, with-value, by-nothing}
+use Rattle.field.proofs.Loops.{refused, with-value, by-nothing}
 
 -- the powers of α run 1, 2, 4, 8, 16, 32, 3, 6, 12, 24, 48, 35, ..
 pub first-powers : map (power α) (0 ∷ 1 ∷ 2 ∷ 3 ∷ 4 ∷ 5 ∷ 6 ∷ 7 ∷ 8 ∷ 9 ∷ 10 ∷ 11 ∷ []) ≡ 1 ∷ 2 ∷ 4 ∷ 8 ∷ 16 ∷ 32 ∷ 3 ∷ 6 ∷ 12 ∷ 24 ∷ 48 ∷ 35 ∷ []

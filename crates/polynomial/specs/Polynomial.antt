@@ -1,8 +1,8 @@
 -- Polynomials over the field, as lists of coefficients, the lowest first.
 use mathlib.Core.Path.{_≡_}
 use mathlib.Core.List.{List, [], _∷_}
-use Prim.Native.Nat.{ℕ, zero, suc, _<_}
-use lib.ListN.{getD}
+use Prim.Native.Nat.{ℕ, zero, suc}
+use Rattle.numbers.specs.Below.{AllBelow}
 use Rattle.field.specs.Field.{sum, product}
 use Rattle.polynomial.specs.Sums.{moment}
 
@@ -13,7 +13,7 @@ polyAt (p ∷ ps) x = sum p (product x (polyAt ps x))
 
 -- every coefficient is an element
 abbrev pub Elements : List ℕ → Type 0
-Elements ps = (k : ℕ) → getD ps k 0 < 64
+Elements = AllBelow 64
 
 -- the polynomial is 0 at each of these
 abbrev pub ZeroAt : List ℕ → List ℕ → Type 0
@@ -26,10 +26,10 @@ combined [] j vs xs = 0
 combined (p ∷ ps) j vs xs = sum (product p (moment j vs xs)) (combined ps (suc j) vs xs)
 
 -- each value times the polynomial at its place
-unfoldable pub scaled : List ℕ → List ℕ → List ℕ → List ℕ
-scaled ps [] xs = []
-scaled ps (v ∷ vs) [] = []
-scaled ps (v ∷ vs) (x ∷ xs) = product v (polyAt ps x) ∷ scaled ps vs xs
+unfoldable pub weighted : List ℕ → List ℕ → List ℕ → List ℕ
+weighted ps [] xs = []
+weighted ps (v ∷ vs) [] = []
+weighted ps (v ∷ vs) (x ∷ xs) = product v (polyAt ps x) ∷ weighted ps vs xs
 
 -- the quotient by x + r, and a 0 after it: each coefficient is the value at r of what follows it
 unfoldable pub over : List ℕ → ℕ → List ℕ

@@ -31,8 +31,8 @@ pub record Listable (ring : List ℕ) (t room : ℕ) : Type 0 where
   pub wide : room ≡ 126
 
 -- at most t errors, t counting up to 5, have these eleven power sums
-abbrev pub Mendable : List ℕ → ℕ → Type 0
-Mendable sums t = (errors : List ℕ) × Fits sums 11 (min t 5) errors
+abbrev pub ErrorsFit : List ℕ → ℕ → Type 0
+ErrorsFit sums t = (errors : List ℕ) × Fits sums 11 (min t 5) errors
 
 -- the ring place of address a at start k
 abbrev pub placeOf : ℕ → ℕ → ℕ

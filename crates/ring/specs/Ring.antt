@@ -20,8 +20,8 @@ Start t ring k = Readable t (placed k ring)
 -- those of the n numbers k, k + 1, .. that have a property, in rising order
 pub data Those (P : ℕ → Type 0) : ℕ → ℕ → List ℕ → Type 0 where
   end : {k : ℕ} → Those P zero k []
-  listed : {n k : ℕ} {ks : List ℕ} → P k → Those P n (suc k) ks → Those P (suc n) k (k ∷ ks)
-  not-listed : {n k : ℕ} {ks : List ℕ} → (P k → ⊥) → Those P n (suc k) ks → Those P (suc n) k ks
+  included : {n k : ℕ} {ks : List ℕ} → P k → Those P n (suc k) ks → Those P (suc n) k (k ∷ ks)
+  excluded : {n k : ℕ} {ks : List ℕ} → (P k → ⊥) → Those P n (suc k) ks → Those P (suc n) k ks
 
 -- the list of a ring: those of the starts 0 to 125 that are listed
 abbrev pub ListOf : ℕ → List ℕ → List ℕ → Type 0

@@ -4,7 +4,7 @@ use mathlib.Core.Path.{sym, ap₂, _∙_}
 use Rattle.field.specs.Field.{sum, product}
 use Rattle.planes.proofs.Bits.{or-between}
 use Rattle.regular.specs.Pivots.{Pivots}
-use Rattle.regular.proofs.Turns.{left-none, right-none}
+use Rattle.regular.proofs.Loops.{left-none, right-none}
 use Rattle.regular.proofs.two.Statement.{statement}
 use Rattle.regular.proofs.two.Tie as tie
 

@@ -17,9 +17,9 @@ use Rattle.refusal.specs.Promise.{Tells}
 use Rattle.refusal.proofs.Laws.{tells-yes, tells-no}
 use Rattle.numbers.specs.Total.{total}
 use Rattle.numbers.proofs.Totals.{total-none, total-front}
-use Rattle.eights.specs.Inside.{byte, Holds, eightFrom}
+use Rattle.eights.specs.Inside.{byte, HoldsBytes, eightFrom}
 use Rattle.eights.proofs.Laws.{none-byte}
-use Rattle.eights.proofs.Turns.{holds-at, eight-more}
+use Rattle.eights.proofs.Loops.{holds-at, eight-more}
 use Rattle.block.specs.Block.{Bytes, ones, Sevens}
 use Rattle.block.specs.Inside.{oddRows, summed, wanted, Counted, checked, withChecks, encoded}
 use Rattle.block.specs.Lanes.{count, CountedTo, OddBytes, SomeByte}
@@ -104,7 +104,7 @@ eights-none rows =
       };
     }
 
-module _ (rows : List ℕ) (i odd row z x p odd′ row′ : ℕ) (t : EightsTo rows i odd row z) (h : i + 8 ≤ length rows) (s : Holds (eightFrom rows i) x) (o : OddBytes x p) where
+module _ (rows : List ℕ) (i odd row z x p odd′ row′ : ℕ) (t : EightsTo rows i odd row z) (h : i + 8 ≤ length rows) (s : HoldsBytes (eightFrom rows i) x) (o : OddBytes x p) where
   odd-byte : (k : ℕ) → k < 8 → byte p k ≡ ones (getD rows (i + k) 0) % 2
   odd-byte k l = o .at k l ∙ ap (λ (r : ℕ). ones r % 2) (holds-at rows i x s k l)
 

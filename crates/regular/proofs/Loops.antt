@@ -23,6 +23,12 @@ left-none h z = omega (arith, h .left)
 pub right-none : {x y o : ℕ} → Between x y o → o ≡ 0 → y ≡ 0
 right-none h z = omega (arith, h .right)
 
+-- ---- entries, one after another
+
+infixr 1 _next_
+abbrev pub _next_ : {A B : Type 0} → A → B → A × B
+a next b = (a, b)
+
 -- ---- the sums
 
 sum-small : (sums words : List ℕ) (l k : ℕ) → sumIn sums words l k < 64
@@ -51,5 +57,5 @@ no-errors-where sums words s0 s1 s2 s3 s4 s5 s6 s7 s8 s9 s10 r h0 h1 h2 h3 h4 h5
     record {
       none = λ l b z.
           no-errors (listed (sumIn sums words l) 0 11) (sumIn sums words l) (sum-small sums words l) (λ k g. listed-get (sumIn sums words l) 11 k g)
-          (p .pivots l b z (sumIn sums words l) (h0 .at l b, (h1 .at l b, (h2 .at l b, (h3 .at l b, (h4 .at l b, (h5 .at l b, (h6 .at l b, (h7 .at l b, (h8 .at l b, (h9 .at l b, (h10 .at l b, tt))))))))))));
+          (p .pivots l b z (sumIn sums words l) (h0 .at l b next h1 .at l b next h2 .at l b next h3 .at l b next h4 .at l b next h5 .at l b next h6 .at l b next h7 .at l b next h8 .at l b next h9 .at l b next h10 .at l b next tt));
     }

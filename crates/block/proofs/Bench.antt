@@ -1,52 +1,16 @@
--- The bench sheet's rows for blocks that are proved: one table, and one statement that every row of it is true.
+-- Every row of the bench sheet's table for blocks is true.
 use mathlib.Core.Path.{_≡_, refl}
-use mathlib.Core.List.{List, [], _∷_}
+use mathlib.Core.List.{[], _∷_}
 use Prim.Native.Nat.{ℕ, zero, suc, _<_, _≤_}
 use native.Mathlib.Omega.{arith}
 use lib.Count.{onesIn}
 use lib.Bits.{bitXor}
-use lib.ListN.{length}
 use Rattle.block.specs.Block.{Bytes, ones, Proper, distance, Near}
-use Rattle.block.specs.Promises.{Reads}
+use Rattle.block.specs.Bench.{sheet, All}
 use Rattle.block.specs.Inside.{oddRows, summed, wanted}
 use Rattle.block.proofs.Columns.{is-proper}
 use Rattle.block.proofs.Apart.{wrong-columns}
 use Rattle.block.proofs.Reading.{near-reads, none-near}
-
--- what the sheet says of rows: they are proper, they are read as a block at a distance, or they are refused with a number
-pub data Result : Type 0 where
-  proper : Result
-  read-as : List ℕ → ℕ → Result
-  refused : ℕ → Result
-
--- that it is true of them, whatever lay in the output
-abbrev pub Gives : List ℕ → Result → Type 0
-Gives rows proper = Proper rows
-Gives rows (read-as block d) = (old : List ℕ) → length old ≡ length rows → Reads rows old (0 ∷ d ∷ []) block
-Gives rows (refused n) = (old : List ℕ) → length old ≡ length rows → Reads rows old (n ∷ 0 ∷ []) old
-
-infix 1 _is_
-pub record Row : Type 0 where
-  pub rows : List ℕ
-  pub result : Result
-
-abbrev pub _is_ : List ℕ → Result → Row
-rows is result = record { rows = rows; result = result }
-
-abbrev pub sheet : List Row
-sheet =
-    (3 ∷ 252 ∷ [] is proper)
-    ∷ (3 ∷ 253 ∷ [] is read-as (3 ∷ 252 ∷ []) 1)
-    ∷ (3 ∷ 3 ∷ [] is refused 9)
-    ∷ (3 ∷ 0 ∷ [] is refused 9)
-    ∷ []
-
--- every row of a table is true
-abbrev pub All : List Row → Type 0
-All [] = Unit
-All (r ∷ rs) = Gives (r .rows) (r .result) × All rs
-
--- ---- the proof
 
 two-bytes : (x y : ℕ) → x < 256 → y < 256 → Bytes (x ∷ y ∷ [])
 two-bytes x y h k zero = h

@@ -7,6 +7,6 @@ pub mod Even
 pub mod Reading
 pub mod Results
 pub mod Lanes
-pub mod Turns
+pub mod Loops
 pub mod Theorems
 pub mod Bench

@@ -11,8 +11,7 @@ use Rattle.refusal.proofs.Theorems.{one-result, same-numbers}
 use Rattle.block.specs.declared.BlockReading.{BlockReading}
 use Rattle.block.specs.declared.BlockReading.the-variants as R
 use Rattle.block.specs.declared.BlockEncoding.{BlockEncoding}
-use Rattle.block.specs.declared.BlockEncoding.the-variants as E
-use Rattle.block.specs.Block.{dataOf, Proper, distance, Near, Mendable, Sevens, Holds}
+use Rattle.block.specs.Block.{dataOf, Proper, distance, Near, Mendable, Sevens, Holds, OneBlock}
 use Rattle.block.specs.Even.{Even, inverted, lastInverted}
 use Rattle.block.specs.Promises.{readingNumbers, encodingNumbers, readingTests, encodingTests, ReadAs, EncodedAs, Reads, Encodes}
 use Rattle.block.specs.Inside.{encoded}
@@ -39,11 +38,6 @@ pub one-near : (rows a b : List ℕ) → Near rows a → Near rows b → a ≡ b
 one-near rows a b p q = near-same rows a b p q
 
 -- there is one and only one proper block with given data rows
-pub record OneBlock (given : List ℕ) : Type 0 where
-  pub block : List ℕ
-  pub holds : Holds given block
-  pub only : (other : List ℕ) → Holds given other → other ≡ block
-
 pub one-block : (given : List ℕ) → 1 ≤ length given → length given ≤ 63 → Sevens given → OneBlock given
 one-block given least most sevens =
     record { block = encoded given; holds = encoded-holds given least most sevens; only = λ other h. holds-encoded given other h }

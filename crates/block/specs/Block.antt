@@ -5,10 +5,11 @@ use Prim.Native.Nat.{ℕ, _+_, _-_, _/_, _%_, _^_, _<_, _≤_}
 use lib.ListN.{length, getD, take}
 use lib.Bits.{bitXor}
 use lib.Count.{onesIn}
+use Rattle.numbers.specs.Below.{AllBelow}
 
--- rows of eight bits; past the last row getD gives 0
+-- rows of eight bits
 abbrev pub Bytes : List ℕ → Type 0
-Bytes rows = (i : ℕ) → getD rows i 0 < 256
+Bytes = AllBelow 256
 
 -- R rows, 2 to 64, eight bits each
 pub record Block (rows : List ℕ) : Type 0 where
@@ -63,3 +64,9 @@ Sevens given = (i : ℕ) → getD given i 0 ≤ 127
 pub record Holds (given block : List ℕ) : Type 0 where
   pub proper : Proper block
   pub rows : dataOf block ≡ given
+
+-- there is one and only one proper block with these data rows
+pub record OneBlock (given : List ℕ) : Type 0 where
+  pub block : List ℕ
+  pub holds : Holds given block
+  pub only : (other : List ℕ) → Holds given other → other ≡ block

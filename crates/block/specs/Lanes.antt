@@ -4,7 +4,7 @@ use mathlib.Core.List.{List}
 use Prim.Native.Nat.{ℕ, zero, suc, _+_, _%_, _<_, _≤_}
 use lib.ListN.{length, getD}
 use lib.Bits.{bitXor}
-use Rattle.field.specs.Field.{total}
+use Rattle.numbers.specs.Total.{total}
 use Rattle.eights.specs.Inside.{byte}
 use Rattle.block.specs.Block.{ones}
 use Rattle.block.specs.Inside.{wanted}

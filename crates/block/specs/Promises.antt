@@ -14,7 +14,7 @@ use Rattle.block.specs.Block.{distance, Near, Mendable, Sevens, Holds}
 
 -- the numbers of a reading: the answer, and the distance
 abbrev pub readingNumbers : BlockReading → List ℕ
-readingNumbers (R.Block distance) = 0 ∷ distance ∷ []
+readingNumbers (R.Block d) = 0 ∷ d ∷ []
 readingNumbers (R.Refused r) = numberOf r ∷ 0 ∷ []
 
 -- the number of an encoding: the answer

@@ -2,7 +2,7 @@
 ghost use mathlib.Core.Path.{_≡_};
 ghost use Prim.Native.Nat.{_+_, _*_, _/_, _≤_};
 ghost use lib.ListN.{length};
-ghost use Rattle.eights.specs.Inside.{Holds, eightFrom};
+ghost use Rattle.eights.specs.Inside.{HoldsBytes, eightFrom};
 ghost use Rattle.block.specs.Block.{ones, Sevens};
 ghost use Rattle.block.specs.Promises.{readingNumbers, encodingNumbers, Reads, Encodes};
 ghost use Rattle.refusal.specs.Promise.{Tells};
@@ -93,7 +93,7 @@ fn faults_of_eights(rows: &[u8]) -> Faults
 // Eight rows in one number.
 fn eight_rows(rows: &[u8], i: usize) -> u64
     requires { ⌜ i + 8 ≤ length (now rows) ⌝ }
-    ensures { λ r. ⌜ Holds (eightFrom (now (rows .entry)) i) r ⌝ }
+    ensures { λ r. ⌜ HoldsBytes (eightFrom (now (rows .entry)) i) r ⌝ }
 {
     eights::eight(
         rows[i],

@@ -5,9 +5,11 @@ use Prim.Native.Nat.{ℕ, zero, suc, _+_, _-_, _*_, _%_, _<_}
 use native.Mathlib.Nat.{le-of-eq, add-comm, add-assoc}
 use native.Mathlib.Omega.{arith}
 use lib.ListN.{length, getD}
-use Rattle.field.specs.Field.{sum, product, α, power, total}
+use Rattle.numbers.specs.Total.{total}
+use Rattle.field.specs.Field.{sum, product, α, power}
 use Rattle.field.proofs.Laws
-use Rattle.field.proofs.Totals.{total-same, total-scaled}
+use Rattle.numbers.proofs.Totals.{total-same}
+use Rattle.field.proofs.Totals.{total-scaled}
 use Rattle.polynomial.specs.Sums.{nonzero, weight}
 use Rattle.code.specs.Word.{Characters, powerSum, added, distance, listed}
 use Rattle.code.proofs.Words.{same-word, characters-below, length-added, added-get, listed-long, listed-get}
@@ -156,7 +158,7 @@ sum-commutes : Commutes sum
 sum-commutes = record { comm = Laws.sum-comm; assoc = Laws.sum-assoc }
 
 total-folded : (n : ℕ) (f : ℕ → ℕ) → total n f ≡ folded sum n f
-unfolding total folded
+unfolding total folded sum
 total-folded zero f = refl
 total-folded (suc n) f = ap (λ (t : ℕ). sum t (f n)) (total-folded n f)
 

@@ -6,9 +6,11 @@ use native.Mathlib.Nat.{not-suc-le-zero, le-of-suc-le-suc, mul-comm}
 use native.Mathlib.Omega.{arith}
 use lib.ListN.{length, getD, set}
 use lib.Seq.{getD-set-same, getD-set-other}
-use Rattle.field.specs.Field.{sum, product, α, power, total}
+use Rattle.numbers.specs.Total.{total}
+use Rattle.field.specs.Field.{sum, product, α, power}
 use Rattle.field.proofs.Laws
-use Rattle.field.proofs.Totals.{total-same, total-sum, total-front, total-only, total-lt}
+use Rattle.numbers.proofs.Totals.{total-same, total-only, total-lt}
+use Rattle.field.proofs.Totals.{total-sum, total-front}
 use Rattle.polynomial.specs.Sums.{moment, Fresh, Places, Values}
 use Rattle.polynomial.specs.Polynomial.{valueAt}
 use Rattle.polynomial.proofs.Horner.{total-empty, horner, horner-total, horner-value}

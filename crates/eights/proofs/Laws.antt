@@ -13,9 +13,9 @@ use lib.ListN.{getD}
 use borrow.Author.Tests.{eqb-true, eqb-false}
 use Rattle.refusal.specs.Promise.{Tells}
 use Rattle.numbers.proofs.Range.{each, each-at}
-use Rattle.field.specs.Field.{sum, total}
-use Rattle.field.proofs.Laws as Field
-use Rattle.eights.specs.Inside.{byte, Holds, LowEight}
+use Rattle.numbers.specs.Total.{total}
+use Rattle.numbers.proofs.Xor.{xors}
+use Rattle.eights.specs.Inside.{byte, HoldsBytes, LowEight}
 
 byte-lt : (n k : ℕ) → byte n k < 256
 unfolding byte
@@ -68,7 +68,7 @@ byte-joined (c ∷ cs) h (suc k) =
 
 pub eight-holds : (a b c d e f g h n : ℕ) → a < 256 → b < 256 → c < 256 → d < 256 → e < 256 → f < 256 → g < 256 → h < 256
     → n ≡ a + b * 256 + c * 65536 + d * 16777216 + e * 4294967296 + f * 1099511627776 + g * 281474976710656 + h * 72057594037927936
-    → Holds (a ∷ b ∷ c ∷ d ∷ e ∷ f ∷ g ∷ h ∷ []) n
+    → HoldsBytes (a ∷ b ∷ c ∷ d ∷ e ∷ f ∷ g ∷ h ∷ []) n
 unfolding joined
 eight-holds a b c d e f g h n la lb lc ld le lf lg lh q =
     let cs : List ℕ = a ∷ b ∷ c ∷ d ∷ e ∷ f ∷ g ∷ h ∷ [] in
@@ -77,8 +77,8 @@ eight-holds a b c d e f g h n la lb lc ld le lf lg lh q =
 
 -- ---- bits combined
 
-pub byte-xor : (m n k : ℕ) → byte (bitXor m n) k ≡ sum (byte m k) (byte n k)
-unfolding byte sum
+pub byte-xor : (m n k : ℕ) → byte (bitXor m n) k ≡ bitXor (byte m k) (byte n k)
+unfolding byte
 byte-xor m n k = ap (λ (d : ℕ). d % 256) (xor-shr m n (8 * k)) ∙ xor-mod (m / 2 ^ (8 * k)) (n / 2 ^ (8 * k)) 8
 
 byte-or : (m n k : ℕ) → byte (bitOr m n) k ≡ bitOr (byte m k) (byte n k)
@@ -139,25 +139,25 @@ mask-tells n =
 -- ---- eight bytes folded to one
 
 -- byte k is added to the byte m places up
-byte-fold : (n m k : ℕ) → byte (bitXor n (n / 2 ^ (8 * m))) k ≡ sum (byte n k) (byte n (m + k))
-byte-fold n m k = byte-xor n (n / 2 ^ (8 * m)) k ∙ ap (sum (byte n k)) (byte-shift n m k)
+byte-fold : (n m k : ℕ) → byte (bitXor n (n / 2 ^ (8 * m))) k ≡ bitXor (byte n k) (byte n (m + k))
+byte-fold n m k = byte-xor n (n / 2 ^ (8 * m)) k ∙ ap (bitXor (byte n k)) (byte-shift n m k)
 
 eight-terms : (a b c d e f g h : ℕ)
-    → sum (sum (sum a e) (sum c g)) (sum (sum b f) (sum d h)) ≡ sum (sum (sum (sum (sum (sum (sum (sum 0 a) b) c) d) e) f) g) h
-eight-terms a b c d e f g h = simp Field.ring
+    → bitXor (bitXor (bitXor a e) (bitXor c g)) (bitXor (bitXor b f) (bitXor d h)) ≡ bitXor (bitXor (bitXor (bitXor (bitXor (bitXor (bitXor (bitXor 0 a) b) c) d) e) f) g) h
+eight-terms a b c d e f g h = simp xors
 
 pub folds : (z y x w : ℕ) → y ≡ bitXor z (z / 4294967296) → x ≡ bitXor y (y / 65536) → w ≡ bitXor x (x / 256) → w % 256 ≡ total 8 (byte z)
 unfolding total
 folds z y x w e f g =
-    sym (byte-zero w) ∙ from-x 0 ∙ ap₂ sum (from-y 0) (from-y 1)
-    ∙ ap₂ sum (ap₂ sum (from-z 0) (from-z 2)) (ap₂ sum (from-z 1) (from-z 3))
+    sym (byte-zero w) ∙ from-x 0 ∙ ap₂ bitXor (from-y 0) (from-y 1)
+    ∙ ap₂ bitXor (ap₂ bitXor (from-z 0) (from-z 2)) (ap₂ bitXor (from-z 1) (from-z 3))
     ∙ eight-terms (byte z 0) (byte z 1) (byte z 2) (byte z 3) (byte z 4) (byte z 5) (byte z 6) (byte z 7)
   where
-    from-x : (k : ℕ) → byte w k ≡ sum (byte x k) (byte x (1 + k))
+    from-x : (k : ℕ) → byte w k ≡ bitXor (byte x k) (byte x (1 + k))
     from-x k = ap (λ (n : ℕ). byte n k) g ∙ byte-fold x 1 k
 
-    from-y : (k : ℕ) → byte x k ≡ sum (byte y k) (byte y (2 + k))
+    from-y : (k : ℕ) → byte x k ≡ bitXor (byte y k) (byte y (2 + k))
     from-y k = ap (λ (n : ℕ). byte n k) f ∙ byte-fold y 2 k
 
-    from-z : (k : ℕ) → byte y k ≡ sum (byte z k) (byte z (4 + k))
+    from-z : (k : ℕ) → byte y k ≡ bitXor (byte z k) (byte z (4 + k))
     from-z k = ap (λ (n : ℕ). byte n k) e ∙ byte-fold z 4 k

@@ -9,7 +9,7 @@ unfoldable pub byte : ℕ → ℕ → ℕ
 byte n k = n / 2 ^ (8 * k) % 256
 
 -- a number holds these bytes, and then 0
-pub record Holds (cs : List ℕ) (n : ℕ) : Type 0 where
+pub record HoldsBytes (cs : List ℕ) (n : ℕ) : Type 0 where
   pub at : (k : ℕ) → byte n k ≡ getD cs k 0
 
 -- eight bytes from address i on

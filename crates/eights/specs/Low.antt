@@ -1,7 +1,7 @@
 -- Bytes of which each is below 64.
 use mathlib.Core.List.{List}
-use Prim.Native.Nat.{ℕ, _<_}
-use lib.ListN.{getD}
+use Prim.Native.Nat.{ℕ}
+use Rattle.numbers.specs.Below.{AllBelow}
 
 abbrev pub Low : List ℕ → Type 0
-Low w = (a : ℕ) → getD w a 0 < 64
+Low = AllBelow 64

@@ -4,9 +4,9 @@ ghost use mathlib.Core.List.{[], _∷_};
 ghost use Prim.Native.Nat.{_+_, _≤_};
 ghost use lib.ListN.{length, getD};
 ghost use Rattle.refusal.specs.Promise.{Tells};
-ghost use Rattle.field.specs.Field.{total};
+ghost use Rattle.numbers.specs.Total.{total};
 ghost use Rattle.eights.specs.Low.{Low};
-ghost use Rattle.eights.specs.Inside.{byte, Holds, eightFrom, LowEight};
+ghost use Rattle.eights.specs.Inside.{byte, HoldsBytes, eightFrom, LowEight};
 
 // The two high bits of each of eight bytes.
 const HIGH: u64 = 0xc0c0_c0c0_c0c0_c0c0;
@@ -66,7 +66,7 @@ pub fn folded(z: u64) -> u8
 // Eight bytes from an address on, as one number.
 fn eight_at(bytes: &[u8], i: usize) -> u64
     requires { ⌜ i + 8 ≤ length (now bytes) ⌝ }
-    ensures { λ r. ⌜ Holds (eightFrom (now (bytes .entry)) i) r ⌝ }
+    ensures { λ r. ⌜ HoldsBytes (eightFrom (now (bytes .entry)) i) r ⌝ }
 {
     eight(
         bytes[i],
@@ -82,7 +82,7 @@ fn eight_at(bytes: &[u8], i: usize) -> u64
 
 // The first eight bytes as one number, with 0 for those past the end.
 fn few(bytes: &[u8]) -> u64
-    ensures { λ r. ⌜ Holds (eightFrom (now (bytes .entry)) 0) r ⌝ }
+    ensures { λ r. ⌜ HoldsBytes (eightFrom (now (bytes .entry)) 0) r ⌝ }
 {
     eight(
         byte_at(bytes, 0),
@@ -108,7 +108,7 @@ fn byte_at(bytes: &[u8], a: usize) -> u8
 
 // Eight bytes as one number, the first lowest: the compiler makes one load of it.
 pub fn eight(a: u8, b: u8, c: u8, d: u8, e: u8, f: u8, g: u8, h: u8) -> u64
-    ensures { λ r. ⌜ Holds (a ∷ b ∷ c ∷ d ∷ e ∷ f ∷ g ∷ h ∷ []) r ⌝ }
+    ensures { λ r. ⌜ HoldsBytes (a ∷ b ∷ c ∷ d ∷ e ∷ f ∷ g ∷ h ∷ []) r ⌝ }
 {
     wide(a)
         + wide(b) * 256

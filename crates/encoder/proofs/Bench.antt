@@ -12,10 +12,10 @@ use Rattle.code.proofs.Words.{characters-below}
 use Rattle.encoder.specs.Division.{plus, scaled, remainder}
 use Rattle.encoder.specs.Register.{stepped, checksOf}
 use Rattle.encoder.specs.Promises.{LineWith}
-use Rattle.encoder.specs.Inside.{information, encoded}
+use Rattle.encoder.specs.Inside.{information}
 use Rattle.encoder.proofs.Division.{lower, remainder-long}
 use Rattle.encoder.proofs.Stepping.{stepped-is, remainder-none, remainder-more}
-use Rattle.encoder.proofs.Encoding.{encoded-line}
+use Rattle.encoder.proofs.Encoding.{encoded, encoded-line}
 use Rattle.encoder.proofs.Theorems.{one-line}
 
 -- ---- the remainder by the register's steps, each written out

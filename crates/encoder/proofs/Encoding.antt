@@ -14,7 +14,7 @@ use Rattle.code.proofs.Lines.{clean-line}
 use Rattle.encoder.specs.Division.{remainder}
 use Rattle.encoder.specs.Register.{checksOf}
 use Rattle.encoder.specs.Promises.{LineWith}
-use Rattle.encoder.specs.Inside.{information, encoded}
+use Rattle.encoder.specs.Inside.{information}
 use Rattle.encoder.proofs.Division.{root, characters-divide, remainder-is, remainder-long, remainder-value}
 use Rattle.encoder.proofs.Stepping.{added-none}
 
@@ -102,6 +102,10 @@ numbered t n r h =
 texted : (t : List ℕ) (n : ℕ) (r : List ℕ) → length t ≡ 50 → text ((t ++ n / 64 ∷ n % 64 ∷ []) ++ r) ≡ t
 texted t n r h =
     take-append-le 50 (t ++ n / 64 ∷ n % 64 ∷ []) r (omega (arith, length-append t (n / 64 ∷ n % 64 ∷ []))) ∙ take-at t (n / 64 ∷ n % 64 ∷ []) 50 h
+
+-- the line that is made of them: they, and the checks of what the division leaves
+unfoldable pub encoded : List ℕ → ℕ → List ℕ
+encoded t n = information t n ++ checksOf (remainder (information t n))
 
 pub encoded-line : (t : List ℕ) (n : ℕ) → length t ≡ 50 → Characters t → n ≤ 4095 → LineWith t n (encoded t n)
 unfolding encoded information

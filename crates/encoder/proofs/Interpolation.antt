@@ -12,9 +12,11 @@ use lib.Bits.{bitXor}
 use lib.ListN.{length, getD, replicate, length-append, List·getD-append}
 use Rattle.numbers.proofs.Range.{each, each-at}
 use Rattle.numbers.proofs.Cases.{le-or-lt}
-use Rattle.field.specs.Field.{sum, timesX, shifted, product, α, power, total}
+use Rattle.numbers.specs.Total.{total}
+use Rattle.field.specs.Field.{sum, timesX, shifted, product, α, power}
 use Rattle.field.proofs.Laws
-use Rattle.field.proofs.Totals.{total-same, total-sum, total-scaled, total-swap, total-only, total-lt}
+use Rattle.numbers.proofs.Totals.{total-same, total-swap, total-only, total-lt}
+use Rattle.field.proofs.Totals.{total-sum, total-scaled}
 use Rattle.polynomial.specs.Polynomial.{valueAt}
 use Rattle.polynomial.proofs.Horner.{value-total, value-append, value-zeros, horner, horner-value}
 use Rattle.lanes.specs.Lanes.{pack, lane}
@@ -177,14 +179,14 @@ module _ (sums : List ℕ) where
   tens-lt n i = total-lt n (λ j. product (lane (getD tens j 0) i) (getD sums j 0)) (λ j. Laws.product-lt (lane (getD tens j 0) i) (getD sums j 0))
 
   pub tens-first : (t : ℕ) → t ≡ pack 10 (λ i. product (lane (getD tens 0 0) i) (getD sums 0 0)) → t ≡ pack 10 (tensTo 1)
-  unfolding total
+  unfolding total sum
   tens-first t e =
       e ∙ pack-same 10 (λ i. product (lane (getD tens 0 0) i) (getD sums 0 0)) (tensTo 1)
       (λ i l. sym (Laws.zero-sum (product (lane (getD tens 0 0) i) (getD sums 0 0))))
 
   pub tens-more : (n s t : ℕ) → s ≡ pack 10 (tensTo n) → t ≡ pack 10 (λ i. product (lane (getD tens n 0) i) (getD sums n 0))
       → bitXor s t ≡ pack 10 (tensTo (suc n))
-  unfolding total
+  unfolding total sum
   tens-more n s t e f =
       ap₂ bitXor e f
       ∙ xor-pack 10 (tensTo n) (λ i. product (lane (getD tens n 0) i) (getD sums n 0)) (tens-lt n) (λ i. Laws.product-lt (lane (getD tens n 0) i) (getD sums n 0))

@@ -12,7 +12,8 @@ use lib.Dec.{T, eqb, eqb→eq}
 use lib.ListN.{length, getD, set, take, drop, replicate, length-append, length-take, length-drop, length-set, List·getD-eq-default, drop-of-length-le}
 use lib.Seq.{ext-getD, getD-set-same, getD-set-other, take-length, take-at, set-at}
 use Rattle.numbers.proofs.Range.{each, each-at}
-use Rattle.field.specs.Field.{sum, product, total}
+use Rattle.numbers.specs.Total.{total}
+use Rattle.field.specs.Field.{sum, product}
 use Rattle.field.proofs.Laws
 use Rattle.lanes.specs.Lanes.{pack, lane}
 use Rattle.lanes.proofs.Laws.{lane-zero, lane-suc, lane-pack}
@@ -29,10 +30,10 @@ use Rattle.encoder.specs.Division.{remainder}
 use Rattle.encoder.specs.Register.{stepped, next, checksOf}
 use Rattle.encoder.specs.Promises.{encodingTests, LineWith, Encodes, stepNumbers, stepTests, Steps, checkTests, Checks}
 use Rattle.encoder.specs.Interpolation.{ChecksWith, eleven}
-use Rattle.encoder.specs.Inside.{information, encoded}
+use Rattle.encoder.specs.Inside.{information}
 use Rattle.encoder.proofs.Division.{below, lower}
 use Rattle.encoder.proofs.Stepping.{stepped-long, stepped-get, checks-are}
-use Rattle.encoder.proofs.Encoding.{information-long, information-characters, encoded-line}
+use Rattle.encoder.proofs.Encoding.{information-long, information-characters, encoded, encoded-line}
 use Rattle.encoder.proofs.Interpolation.{eleven-long, eleven-lane, eleven-last, all-eleven, checks-remainder}
 
 -- ---- a step of the division

@@ -19,14 +19,14 @@ use Rattle.encoder.specs.declared.CheckAnswer.the-variants as C
 use Rattle.encoder.specs.declared.Register.{Register}
 use Rattle.encoder.specs.declared.Stepped.{Stepped}
 use Rattle.encoder.specs.declared.Checked.{Checked}
-use Rattle.encoder.specs.Division.{plus, scaled, generator, remainder, timesGenerator, GeneratorDivides}
+use Rattle.encoder.specs.Division.{plus, scaled, generator, remainder, timesGenerator, GeneratorDivides, Remains}
 use Rattle.encoder.specs.Register.{empty, next, checksOf}
 use Rattle.encoder.specs.Promises.{encodingNumbers, encodingTests, LineWith, Encodes, stepNumbers, Steps, answerNumber, checkNumbers, Checks}
 use Rattle.encoder.specs.Runs.{Through, Holds}
-use Rattle.encoder.specs.Inside.{information, encoded}
+use Rattle.encoder.specs.Inside.{information}
 use Rattle.encoder.proofs.Division.{lower, generator-is, highest-goes, remainder-is, remainder-long}
 use Rattle.encoder.proofs.Quotients.{quotients, apart}
-use Rattle.encoder.proofs.Encoding.{characters-append, characters-zeros, characters-remainder, information-long, information-characters, encoded-line}
+use Rattle.encoder.proofs.Encoding.{characters-append, characters-zeros, characters-remainder, information-long, information-characters, encoded, encoded-line}
 use Rattle.encoder.proofs.Cleaning
 use Rattle.encoder.proofs.Running.{one-stepping, one-asking, ask-on, holds-none, run-holds, a-run, idle-refused}
 
@@ -45,12 +45,7 @@ pub left-out : (p : ℕ) (ps : List ℕ) → p < 64 → getD (plus (p ∷ ps) (s
 unfolding plus scaled
 left-out p ps h = ap (λ (g : List ℕ). getD (plus (p ∷ ps) (scaled p g)) 0 0) generator-is ∙ highest-goes p h
 
--- the remainder is what is left of x^11 times a polynomial when a multiple of the generator is taken away
-pub record Remains (ps r : List ℕ) : Type 0 where
-  pub quotient : List ℕ
-  pub long : length r ≡ 11
-  pub is : plus (timesGenerator quotient) (replicate (length ps) 0 ++ r) ≡ ps ++ replicate 11 0
-
+-- that is what the remainder is
 pub remainder-remains : (ps : List ℕ) → Characters ps → Remains ps (remainder ps)
 remainder-remains ps h =
     record {

@@ -56,3 +56,9 @@ timesGenerator (q ∷ qs) = plus (scaled q generator) (0 ∷ timesGenerator qs)
 pub record GeneratorDivides (ps : List ℕ) : Type 0 where
   pub quotient : List ℕ
   pub is : ps ≡ timesGenerator quotient
+
+-- r is what is left of x^11 times a polynomial when a multiple of the generator is taken away
+pub record Remains (ps r : List ℕ) : Type 0 where
+  pub quotient : List ℕ
+  pub long : length r ≡ 11
+  pub is : plus (timesGenerator quotient) (replicate (length ps) 0 ++ r) ≡ ps ++ replicate 11 0

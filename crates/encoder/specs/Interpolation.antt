@@ -3,7 +3,8 @@ use mathlib.Core.Path.{_≡_}
 use mathlib.Core.List.{List, [], _∷_, _++_}
 use Prim.Native.Nat.{ℕ, _+_, _%_, _<_}
 use lib.ListN.{length, getD, replicate}
-use Rattle.field.specs.Field.{sum, total}
+use Rattle.numbers.specs.Total.{total}
+use Rattle.field.specs.Field.{sum}
 use Rattle.lanes.specs.Lanes.{lane}
 use Rattle.code.specs.Word.{Characters, powerSum, listed}
 

@@ -10,7 +10,7 @@ use lib.Pow.{field, mod-mod-pow}
 use lib.Dec.{T, T-not, eqb, eqb→eq, ltb, ltb→lt}
 use Rattle.numbers.proofs.Cases.{pos-of-not-zero, not-zero-of-pos, bit-cases}
 use Rattle.numbers.proofs.Range.{both, both-left, both-right, each, each-at, eq→eqb}
-use Rattle.numbers.proofs.Xor.{xor-assoc, xor-double}
+use Rattle.numbers.proofs.Xor.{xor-assoc, xor-undo, xor-cancel, xor-double, xor-left-comm, xor-four}
 use Rattle.field.specs.Field.{sum, timesX, shifted, product, α, power, Log, Quotient}
 use Rattle.field.specs.Inside.{inverse}
 
@@ -47,17 +47,21 @@ sum-low a b = xor-mod a b 6
 
 -- what is added twice goes away
 pub sum-undo : (a b : ℕ) → sum a (sum a b) ≡ b
-sum-undo a b = sym (sum-assoc a a b) ∙ ap (λ (x : ℕ). sum x b) (sum-self a) ∙ zero-sum b
+unfolding sum
+sum-undo = xor-undo
 
 -- a sum that is 0 is of one number and itself
 pub sum-eq : (a b : ℕ) → sum a b ≡ 0 → a ≡ b
-sum-eq a b e = sym (sum-zero a) ∙ ap (sum a) (sym e) ∙ sum-undo a b
+unfolding sum
+sum-eq = xor-cancel
 
 pub sum-left-comm : (a b c : ℕ) → sum a (sum b c) ≡ sum b (sum a c)
-sum-left-comm a b c = sym (sum-assoc a b c) ∙ ap (λ (x : ℕ). sum x c) (sum-comm a b) ∙ sum-assoc b a c
+unfolding sum
+sum-left-comm = xor-left-comm
 
 pub sum-four : (a b c d : ℕ) → sum (sum a b) (sum c d) ≡ sum (sum a c) (sum b d)
-sum-four a b c d = sum-assoc a b (sum c d) ∙ ap (sum a) (sum-left-comm b c d) ∙ sym (sum-assoc a c (sum b d))
+unfolding sum
+sum-four = xor-four
 
 -- ---- x times an element
 
@@ -106,7 +110,8 @@ shifted-sum (suc n) a c b =
     ap₂ sum (bit-sum b a c) (ap (λ (x : ℕ). shifted n x (b / 2)) (timesX-sum a c) ∙ shifted-sum n (timesX a) (timesX c) (b / 2))
     ∙ sum-four (b % 2 * a) (b % 2 * c) (shifted n (timesX a) (b / 2)) (shifted n (timesX c) (b / 2))
 
-shifted-timesX : (n a b : ℕ) → shifted n (timesX a) b ≡ timesX (shifted n a b)
+-- x first or last is the same
+pub shifted-timesX : (n a b : ℕ) → shifted n (timesX a) b ≡ timesX (shifted n a b)
 unfolding shifted
 shifted-timesX zero a b = sym timesX-zero
 shifted-timesX (suc n) a b =
@@ -223,10 +228,6 @@ unfolding power
 power-low a zero = refl
 power-low a (suc n) = product-low a (power (a % 64) n) ∙ ap (product a) (power-low a n)
 
-pub power-one : (a : ℕ) → a < 64 → power a 1 ≡ a
-unfolding power
-power-one a h = product-one a h
-
 pub one-power : (n : ℕ) → power 1 n ≡ 1
 unfolding power
 one-power zero = refl
@@ -246,10 +247,6 @@ power-swap a m n = sym (power-mul a n m) ∙ ap (power a) (mul-comm n m) ∙ pow
 α-step : (a : ℕ) → product α a ≡ timesX (a % 64)
 unfolding product shifted
 α-step a = product-comm α a ∙ simp (zero-mul, one-mul, zero-sum, sum-zero)
-
-pub power-next : (n : ℕ) → timesX (power α n) ≡ power α (suc n)
-unfolding power
-power-next n = ap timesX (sym (mod-eq-of-lt (power-lt α n))) ∙ sym (α-step (power α n))
 
 -- n steps from u
 walk : ℕ → ℕ → ℕ

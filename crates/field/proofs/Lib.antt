@@ -2,5 +2,5 @@
 pub mod Laws
 pub mod Totals
 pub mod Lookup
-pub mod Turns
+pub mod Loops
 pub mod Theorems

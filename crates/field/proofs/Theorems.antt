@@ -3,7 +3,7 @@
 use mathlib.Core.Path.{_≡_, refl, sym, ap, _∙_}
 use mathlib.Core.Logic.{⊎-elim}
 use mathlib.Core.List.{List, [], _∷_, map}
-use Prim.Native.Nat.{ℕ, zero, _<_, _≤_}
+use Prim.Native.Nat.{ℕ, _<_, _≤_}
 use native.Mathlib.Omega.{arith}
 use lib.ListN.{getD}
 use Rattle.refusal.specs.declared.Refusal.the-variants.{ValueOver, QuotientByZero}
@@ -14,11 +14,11 @@ use Rattle.refusal.proofs.Theorems.{one-reply}
 use Rattle.numbers.proofs.Cases.{same-or-not, le-or-lt}
 use Rattle.field.specs.declared.Element.{Element}
 use Rattle.field.specs.declared.Element.the-variants.{Value, Refused}
-use Rattle.field.specs.Field.{sum, timesX, shifted, product, α, power, Log, Quotient}
+use Rattle.field.specs.Field.{sum, timesX, shifted, product, α, power, Log, Returns, Quotient}
 use Rattle.field.specs.Inside.{lookedUp, Products, inverse}
 use Rattle.field.specs.Promises.{elementNumbers, Operands, operandTests, divisionTests, OneValue, Operates, Sums, Multiplies, Divides}
 use Rattle.field.proofs.Laws
-use Rattle.field.proofs.Turns.{refused, with-value, by-nothing}
+use Rattle.field.proofs.Loops.{refused, with-value, by-nothing}
 
 -- the powers of α run 1, 2, 4, 8, 16, 32, 3, 6, 12, 24, 48, 35, ..
 pub first-powers : map (power α) (0 ∷ 1 ∷ 2 ∷ 3 ∷ 4 ∷ 5 ∷ 6 ∷ 7 ∷ 8 ∷ 9 ∷ 10 ∷ 11 ∷ []) ≡ 1 ∷ 2 ∷ 4 ∷ 8 ∷ 16 ∷ 32 ∷ 3 ∷ 6 ∷ 12 ∷ 24 ∷ 48 ∷ 35 ∷ []
@@ -26,10 +26,6 @@ unfolding power product shifted timesX sum
 first-powers = refl
 
 -- and return to 1 first at the power 63
-pub record Returns (n : ℕ) : Type 0 where
-  pub here : power α n ≡ 1
-  pub first : (m : ℕ) → 0 < m → m < n → power α m ≡ 1 → ⊥
-
 pub returns-at-63 : Returns 63
 returns-at-63 = record { here = Laws.power-period; first = Laws.power-order }
 

@@ -32,13 +32,13 @@ pub record Log (v n : ℕ) : Type 0 where
   pub below : n < 63
   pub is : power α n ≡ v
 
+-- the powers of α return to 1 first at the power n
+pub record Returns (n : ℕ) : Type 0 where
+  pub here : power α n ≡ 1
+  pub first : (m : ℕ) → 0 < m → m < n → power α m ≡ 1 → ⊥
+
 -- w is the quotient u/v, for a v that is not 0: the w with v·w = u
 pub record Quotient (u v w : ℕ) : Type 0 where
   pub divisor : 0 < v
   pub element : w < 64
   pub exact : product v w ≡ u
-
--- f 0 + f 1 + .. + f (n - 1)
-unfoldable pub total : ℕ → (ℕ → ℕ) → ℕ
-total zero f = 0
-total (suc n) f = sum (total n f) (f n)

@@ -1,28 +1,19 @@
 -- The product of ten constant lanes by two choices of eight: what each arm of a choice gives, and what both make of each lane.
 use mathlib.Core.Path.{_≡_, sym, ap, ap₂, _∙_}
-use mathlib.Core.Logic.{⊎-elim}
-use Prim.Native.Nat.{ℕ, zero, suc, _+_, _*_, _/_, _%_, _<_, _≤_}
-use native.Mathlib.Nat.{mul-comm, one-mul, zero-mul, mod-eq-of-lt, eq-or-lt-of-le}
+use Prim.Native.Nat.{ℕ, _+_, _*_, _/_, _%_, _<_, _≤_}
+use native.Mathlib.Nat.{mul-comm, one-mul, zero-mul, mod-eq-of-lt}
 use native.Mathlib.Omega.{arith}
 use lib.Arith.{mod-mul}
 use lib.Bits.{bitXor, xor-zero-r}
+use Rattle.numbers.proofs.Arms.{NoneBelow, none-below}
 use Rattle.numbers.proofs.Cases.{bit-lt}
 use Rattle.field.specs.Field.{sum, timesX, shifted, product}
 use Rattle.field.proofs.Laws
 use Rattle.lanes.specs.Lanes.{pack, lane}
 use Rattle.lanes.proofs.Laws.{lane-lt, pack-same, lane-pack, pack-lanes, xor-pack, times-pack}
-use Rattle.lanes.proofs.Turns.{chosen-lt}
+use Rattle.lanes.proofs.Loops.{chosen-lt}
 
 -- ---- the arms of a choice
-
--- what the last arm is told after arms at 0 to n - 1
-abbrev pub NoneBelow : ℕ → ℕ → Type 0
-NoneBelow zero x = Unit
-NoneBelow (suc n) x = NoneBelow n x × (x ≡ n → ⊥)
-
-none-below : (n x : ℕ) → NoneBelow n x → n ≤ x
-none-below zero x h = omega arith
-none-below (suc n) x h = ⊎-elim (λ e. absurd (h .1 (sym e))) (λ l. l) (eq-or-lt-of-le (none-below n x (h .0)))
 
 half : (m n x y : ℕ) → x < 2 → y < 2 → m * 2 + x ≡ n * 2 + y → m ≡ n
 half m n x y hx hy e = omega arith

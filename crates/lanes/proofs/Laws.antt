@@ -1,6 +1,6 @@
 -- The laws of lanes: what packing keeps, and what exclusive or, masks and shifts do to every lane.
 use mathlib.Core.Path.{_≡_, refl, sym, ap, ap₂, _∙_}
-use Prim.Native.Nat.{ℕ, zero, suc, _+_, _*_, _/_, _%_, _^_, _<_, _-_}
+use Prim.Native.Nat.{ℕ, zero, suc, _+_, _*_, _/_, _%_, _^_, _<_}
 use native.Mathlib.Nat.{div-div-eq-div-mul, mul-right-comm, add-mul, div-one, pow-succ', pow-suc, div-add-mod', mod-eq-of-lt, mod-lt, zero-lt-suc, zero-add, zero-mul, mul-one, mul-assoc, add-right-comm, suc-add}
 use native.Mathlib.Omega.{arith}
 use lib.Arith.{digits-div, digits-mod, mod-mul}

@@ -2,8 +2,12 @@
 ghost use mathlib.Core.Path.{_≡_};
 ghost use Prim.Native.Nat.{_*_, _/_, _%_};
 ghost use lib.Bits.{bitXor};
-ghost use Rattle.field.specs.Field.{timesX, product, total};
+ghost use Rattle.numbers.specs.Total.{total};
+ghost use Rattle.field.specs.Field.{timesX, product};
 ghost use Rattle.lanes.specs.Lanes.{pack, lane};
+
+// In each of five lanes 1.
+pub const FIVE_ONES: u64 = 17043521;
 
 // In each of ten lanes 1, 31, 32 and 62.
 const ONES: u64 = 18300341342965825;

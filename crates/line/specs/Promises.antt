@@ -14,7 +14,7 @@ use Rattle.line.specs.declared.LineReading.the-variants as R
 
 -- the numbers of a reading: the answer, the line's number, its distance from the input, and the first and the last changed address
 abbrev pub readingNumbers : LineReading → List ℕ
-readingNumbers (R.Line number distance first last) = 0 ∷ number ∷ distance ∷ first ∷ last ∷ []
+readingNumbers (R.Line n d first last) = 0 ∷ n ∷ d ∷ first ∷ last ∷ []
 readingNumbers (R.Refused r) = numberOf r ∷ 0 ∷ 0 ∷ 0 ∷ 0 ∷ []
 
 -- l is a line within t of w

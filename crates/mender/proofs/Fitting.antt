@@ -9,15 +9,17 @@ use lib.ListN.{getD, length, drop, List·getD-eq-default}
 use lib.Seq.{drop-cons}
 use borrow.Author.Tests.{eq-eqb, ne-eqb}
 use Rattle.numbers.proofs.Cases.{le-or-lt, same-or-not, pos-of-not-zero}
-use Rattle.field.specs.Field.{sum, product, α, power, total}
+use Rattle.numbers.specs.Total.{total}
+use Rattle.field.specs.Field.{sum, product, α, power}
 use Rattle.field.specs.Inside.{inverse}
 use Rattle.field.proofs.Laws
-use Rattle.field.proofs.Totals.{total-none, total-front}
+use Rattle.numbers.proofs.Totals.{total-none}
+use Rattle.field.proofs.Totals.{total-front}
 use Rattle.polynomial.specs.Sums.{moment, Places, Values, Zeros}
-use Rattle.polynomial.specs.Polynomial.{polyAt, combined, scaled, over, locator}
+use Rattle.polynomial.specs.Polynomial.{polyAt, combined, weighted, over, locator}
 use Rattle.polynomial.proofs.Places.{place-pos, place-lt}
 use Rattle.polynomial.proofs.Vandermonde.{zeros-get, zeros-moment}
-use Rattle.polynomial.proofs.Combining.{scaled-get}
+use Rattle.polynomial.proofs.Combining.{weighted-get}
 use Rattle.polynomial.proofs.Division.{over-get, length-over, poly-past, poly-small, over-small}
 use Rattle.polynomial.proofs.Locator.{locator-elements}
 use Rattle.polynomial.proofs.Theorems.{combining, zero-at-places, Locates, a-locator, one-value-left}
@@ -146,13 +148,13 @@ module _ (s : List ℕ) (c e n : ℕ) (w : List ℕ) (enough : e ≤ n) (few : n
     solves : (j : ℕ) → j < n → combined p (58 + j) w xs ≡ 0
     solves j l = sym (mixed-fits p j (le-of-eq (a .wide)) (reads (coef p) j l (a .short))) ∙ a .kernel j l
 
-    zero-at-errors : Zeros (scaled p w xs)
+    zero-at-errors : Zeros (weighted p w xs)
     zero-at-errors = zero-at-places p xs w n 58 xs-good xs-values (let g = fits .light in omega arith) solves
 
     -- so it combines any window to 0 whose sums are among the c
     pub combines-more : (j : ℕ) → ((k : ℕ) → (getD p k 0 ≡ 0) ⊎ (j + k < c)) → mixed (coef p) s j ≡ 0
     combines-more j g =
-        mixed-fits p j (le-of-eq (a .wide)) g ∙ combining p (58 + j) w xs ∙ zeros-moment (58 + j) (scaled p w xs) xs zero-at-errors
+        mixed-fits p j (le-of-eq (a .wide)) g ∙ combining p (58 + j) w xs ∙ zeros-moment (58 + j) (weighted p w xs) xs zero-at-errors
 
     module _ (b : ℕ) (hb : b < 63) where
       x : ℕ
@@ -178,7 +180,7 @@ module _ (s : List ℕ) (c e n : ℕ) (w : List ℕ) (enough : e ≤ n) (few : n
       unfolding x
       not-root d =
           Laws.product-cancel (getD w b 0) (polyAt p x) w-lt (pos-of-not-zero (polyAt p x) d) (poly-small p x (a .small))
-          (sym (scaled-get p w xs xs-values b) ∙ zeros-get (scaled p w xs) zero-at-errors b)
+          (sym (weighted-get p w xs xs-values b) ∙ zeros-get (weighted p w xs) zero-at-errors b)
 
       module _ (root : polyAt p x ≡ 0) where
         q : List ℕ

@@ -8,7 +8,7 @@ use native.Mathlib.Omega.{arith}
 use lib.ListN.{getD}
 use Rattle.refusal.specs.Promise.{Tells}
 use Rattle.field.specs.Field.{product}
-use Rattle.field.proofs.Totals.{total-same}
+use Rattle.numbers.proofs.Totals.{total-same}
 use Rattle.lanes.specs.Lanes.{lane}
 use Rattle.lanes.proofs.Laws.{lane-lt}
 use Rattle.sums.specs.declared.Sums.{Sums}

@@ -11,7 +11,7 @@ use lib.Seq.{getD-set-same, getD-set-other}
 use Rattle.numbers.proofs.Cases.{pos-of-not-zero, same-or-not}
 use Rattle.field.specs.Field.{sum, product, α, power}
 use Rattle.field.proofs.Laws
-use Rattle.field.proofs.Totals.{total-none}
+use Rattle.numbers.proofs.Totals.{total-none}
 use Rattle.lanes.specs.Lanes.{pack, lane}
 use Rattle.lanes.proofs.Laws.{lane-suc, pack-same, pack-equal, pack-lanes, pack-last}
 use Rattle.places.specs.Logs.{LogOf}

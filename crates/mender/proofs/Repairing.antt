@@ -12,9 +12,10 @@ use lib.Bits.{bitXor}
 use Rattle.numbers.proofs.Cases.{le-or-lt, same-or-not}
 use Rattle.refusal.specs.Promise.{Tells}
 use Rattle.refusal.proofs.Laws.{tells-yes, tells-no}
-use Rattle.field.specs.Field.{sum, product, total}
+use Rattle.numbers.specs.Total.{total}
+use Rattle.field.specs.Field.{sum, product}
 use Rattle.field.proofs.Laws
-use Rattle.field.proofs.Totals.{total-same}
+use Rattle.numbers.proofs.Totals.{total-same}
 use Rattle.lanes.specs.Lanes.{pack, lane}
 use Rattle.lanes.proofs.Laws.{lane-lt, lane-after, pack-same, pack-more, pack-last, pack-equal, pack-lanes, lane-pack}
 use Rattle.polynomial.specs.Sums.{weight}
@@ -211,7 +212,7 @@ window-is h =
     ∙ sym (pack-more 8 (window h) (window-past h 8 (omega arith))) ∙ sym (pack-more 9 (window h) (window-past h 9 (omega arith)))
 
 total-six : (f : ℕ → ℕ) → ((k : ℕ) → 6 ≤ k → f k ≡ 0) → total 10 f ≡ total 6 f
-unfolding total
+unfolding total sum
 total-six f z =
     let t : ℕ = sum (sum (sum (sum (sum (sum 0 (f 0)) (f 1)) (f 2)) (f 3)) (f 4)) (f 5) in
     ap₂ sum (ap₂ sum (ap₂ sum (ap (sum t) (z 6 (omega arith)) ∙ Laws.sum-zero t) (z 7 (omega arith)) ∙ Laws.sum-zero t) (z 8 (omega arith)) ∙ Laws.sum-zero t) (z 9 (omega arith)) ∙ Laws.sum-zero t

@@ -4,7 +4,8 @@ use mathlib.Core.Bool.{true, false}
 use mathlib.Core.List.{List}
 use Prim.Native.Nat.{ℕ, _+_, _<_}
 use lib.ListN.{getD, replicate, set}
-use Rattle.field.specs.Field.{product, total}
+use Rattle.numbers.specs.Total.{total}
+use Rattle.field.specs.Field.{product}
 use Rattle.lanes.specs.Lanes.{lane}
 use Rattle.polynomial.specs.Sums.{weight}
 use Rattle.code.specs.Word.{added}

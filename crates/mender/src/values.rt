@@ -6,13 +6,11 @@ ghost use Rattle.mender.specs.Values.{RootFrom, Patterned, Placed, Place
 use super::NOWHERE;
 use super::least;
 use lanes::FIVE_LANES;
+use lanes::FIVE_ONES;
 use lanes::FOUR_LANES;
 use lanes::SIX_LANES;
 use lanes::THREE_LANES;
 use lanes::TWO_LANES;
-
-// In each of five lanes 1.
-const FIVE_ONES: u64 = 17043521;
 
 // A pattern of errors, how many of its characters are not 0, and the first and the last address of these.
 pub struct Pattern {

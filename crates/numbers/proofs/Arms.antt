@@ -18,6 +18,9 @@ none-from : (k n x : ℕ) → k ≤ x → NoneFrom k n x → n + k ≤ x
 none-from k zero x b h = omega arith
 none-from k (suc n) x b h = let l : n + k ≤ x = none-from k n x b (h .0) in ⊎-elim (λ e. absurd (h .1 (sym e))) (λ (g : n + k < x). omega arith) (eq-or-lt-of-le l)
 
+pub none-below : (n x : ℕ) → NoneBelow n x → n ≤ x
+none-below n x h = omega (arith, none-from 0 n x (omega arith) h)
+
 -- of the low six bits none but 63 is left
 pub last-of-64 : (u : ℕ) → NoneBelow 63 (u % 64) → u % 64 ≡ 63
 last-of-64 u h = let l : 63 ≤ u % 64 = none-from 0 63 (u % 64) (omega arith) h in omega arith

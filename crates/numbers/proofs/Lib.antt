@@ -1,7 +1,8 @@
--- The laws of numbers: cases, tests over a range and over a list, the arms of a match, bits, exclusive or.
+-- The laws of numbers: cases, tests over a range and over a list, the arms of a match, bits, exclusive or, also of many.
 pub mod Cases
 pub mod Range
 pub mod Entries
 pub mod Arms
 pub mod Bits
 pub mod Xor
+pub mod Totals

@@ -4,7 +4,7 @@ use Prim.Native.Nat.{ℕ, zero, suc, _+_, _*_, _/_, _%_, _<_}
 use native.Mathlib.Nat.{add-zero, zero-lt-suc}
 use native.Mathlib.Omega.{arith}
 use lib.Arith.{bin-ind}
-use lib.Bits.{bitXor, differ, xor-step, xor-shr, xor-mod, xor-block, xor-self, xor-zero-r}
+use lib.Bits.{bitXor, differ, xor-step, xor-shr, xor-mod, xor-block, xor-self, xor-comm, xor-zero-r}
 use Rattle.numbers.proofs.Cases.{bit-lt}
 
 -- of three bits
@@ -53,3 +53,12 @@ pub xor-double : (a b : ℕ) → bitXor (a * 2) (b * 2) ≡ bitXor a b * 2
 xor-double a b =
     ap₂ bitXor (sym (add-zero (a * 2))) (sym (add-zero (b * 2)))
     ∙ xor-block 1 a b 0 0 (zero-lt-suc 1) (zero-lt-suc 1) ∙ add-zero (bitXor a b * 2)
+
+pub xor-left-comm : (a b c : ℕ) → bitXor a (bitXor b c) ≡ bitXor b (bitXor a c)
+xor-left-comm a b c = sym (xor-assoc a b c) ∙ ap (λ (h : ℕ). bitXor h c) (xor-comm a b) ∙ xor-assoc b a c
+
+pub xor-four : (a b c d : ℕ) → bitXor (bitXor a b) (bitXor c d) ≡ bitXor (bitXor a c) (bitXor b d)
+xor-four a b c d = xor-assoc a b (bitXor c d) ∙ ap (bitXor a) (xor-left-comm b c d) ∙ sym (xor-assoc a c (bitXor b d))
+
+-- an identity of exclusive ors, both sides sorted: `simp xors`, over plain variables
+pub ruleset xors = (xor-assoc, xor-left-comm, xor-comm, xor-self, xor-undo, xor-zero-r)

@@ -1,4 +1,4 @@
 -- The laws of bits and elements in planes, what each function does with them, and what callers read.
 pub mod Bits
-pub mod Turns
+pub mod Loops
 pub mod Theorems

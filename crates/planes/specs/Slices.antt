@@ -16,7 +16,7 @@ ofBits a b c d e f = ((((f * 2 + e) * 2 + d) * 2 + c) * 2 + b) * 2 + a
 unfoldable pub elementAt : Planes → ℕ → ℕ
 elementAt v l = ofBits (bitAt (v .b0) l) (bitAt (v .b1) l) (bitAt (v .b2) l) (bitAt (v .b3) l) (bitAt (v .b4) l) (bitAt (v .b5) l)
 
-pub record Spread (c r : ℕ) : Type 0 where
+pub record BitSpread (c r : ℕ) : Type 0 where
   pub bit : (l : ℕ) → l < 63 → bitAt r l ≡ c % 2
 
 pub record Everywhere (c : ℕ) (r : Planes) : Type 0 where

@@ -1,6 +1,6 @@
 // 64 elements at a time, a word of 64 bits for each of their six bits: their sums and products, and the roots of a polynomial among the 63 powers of α, all at once.
 ghost use Rattle.planes.specs.Roots.{RootsOf};
-ghost use Rattle.planes.specs.Slices.{Spread, Everywhere, Doubled, Added, OnlyAt, NextBit, PlaceMultiplied, ZerosOf};
+ghost use Rattle.planes.specs.Slices.{BitSpread, Everywhere, Doubled, Added, OnlyAt, NextBit, PlaceMultiplied, ZerosOf};
 ghost use Rattle.planes.specs.Crossed.{Crossed, Squared};
 
 // Bit l of each is one bit of the l-th power of α, the lowest bit first.
@@ -47,7 +47,7 @@ pub fn roots(p: [u8; 6]) -> u64
 
 // The lowest bit of c at each of 63 places.
 fn spread(c: u8) -> u64
-    ensures { λ r. ⌜ Spread c r ⌝ }
+    ensures { λ r. ⌜ BitSpread c r ⌝ }
 {
     let b = c as u64;
     b % 2 * ALL_PLACES

@@ -51,7 +51,7 @@ over-small ps x h k =
     subst (λ (t : ℕ). t < 64) (sym (over-get ps x k)) (poly-small (drop (suc k) ps) x (λ i. subst (λ (t : ℕ). t < 64) (sym (getD-drop (suc k) ps i 0)) (h (suc k + i))))
 
 -- a coefficient is the value of its tail, and x times that of the next
-tail-value : (ps : List ℕ) (x k : ℕ) → polyAt (drop k ps) x ≡ sum (getD ps k 0) (product x (polyAt (drop (suc k) ps) x))
+pub tail-value : (ps : List ℕ) (x k : ℕ) → polyAt (drop k ps) x ≡ sum (getD ps k 0) (product x (polyAt (drop (suc k) ps) x))
 unfolding polyAt
 tail-value [] x zero = sym (ap (sum 0) (Laws.product-zero x) ∙ Laws.sum-self 0)
 tail-value [] x (suc k) = sym (ap (sum 0) (Laws.product-zero x) ∙ Laws.sum-self 0)

@@ -4,9 +4,11 @@ use mathlib.Core.List.{List, [], _∷_, _++_, reverse, reverse-cons}
 use Prim.Native.Nat.{ℕ, zero, suc, _-_, _%_, _<_}
 use native.Mathlib.Omega.{arith}
 use lib.ListN.{length, getD, replicate, length-append, length-reverse}
-use Rattle.field.specs.Field.{sum, product, power, total}
+use Rattle.numbers.specs.Total.{total}
+use Rattle.numbers.proofs.Totals.{total-same}
+use Rattle.field.specs.Field.{sum, product, power}
 use Rattle.field.proofs.Laws
-use Rattle.field.proofs.Totals.{total-same, total-scaled, total-front}
+use Rattle.field.proofs.Totals.{total-scaled, total-front}
 use Rattle.polynomial.specs.Polynomial.{polyAt, valueAt, Elements}
 
 pub value-lt : (x : ℕ) (w : List ℕ) → valueAt x w < 64
@@ -76,7 +78,7 @@ horner x w zero = 0
 horner x w (suc n) = sum (product (horner x w n) x) (getD w n 0 % 64)
 
 pub horner-total : (x : ℕ) (w : List ℕ) (n : ℕ) → horner x w n ≡ total n (λ a. product (getD w a 0) (power x (n - 1 - a)))
-unfolding horner total power
+unfolding horner total power sum
 horner-total x w zero = refl
 horner-total x w (suc n) =
     ap₂ sum

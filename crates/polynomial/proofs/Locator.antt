@@ -1,7 +1,7 @@
 -- The locator of some values, the product of x + X over their places: it combines every run of their sums to 0, and is not 0.
 use mathlib.Core.Path.{_≡_, refl, sym, ap, _∙_}
 use mathlib.Core.List.{List, [], _∷_}
-use Prim.Native.Nat.{ℕ, zero, suc, _+_, _<_}
+use Prim.Native.Nat.{ℕ, zero, suc, _<_}
 use native.Mathlib.Nat.{zero-add}
 use native.Mathlib.Numerals.{one-add}
 use native.Mathlib.Omega.{arith}
@@ -10,9 +10,9 @@ use Rattle.numbers.proofs.Cases.{pos-of-not-zero}
 use Rattle.field.specs.Field.{sum, product}
 use Rattle.field.proofs.Laws
 use Rattle.polynomial.specs.Sums.{nonzero, weight, Places, Values, Zeros}
-use Rattle.polynomial.specs.Polynomial.{polyAt, Elements, combined, scaled, carried, rootAdded, locator}
+use Rattle.polynomial.specs.Polynomial.{polyAt, Elements, combined, weighted, carried, rootAdded, locator}
 use Rattle.polynomial.proofs.Vandermonde.{zeros-moment}
-use Rattle.polynomial.proofs.Combining.{scaled-moment}
+use Rattle.polynomial.proofs.Combining.{weighted-moment}
 
 carried-step : (c r p y t : ℕ) → sum (sum c (product r p)) (product y (sum p (product (sum y r) t))) ≡ sum c (product (sum y r) (sum p (product y t)))
 carried-step c r p y t = simp Laws.ring
@@ -29,29 +29,29 @@ pub rootAdded-at : (r : ℕ) (ps : List ℕ) (y : ℕ) → polyAt (rootAdded r p
 unfolding rootAdded
 rootAdded-at r ps y = carried-at r 0 ps y ∙ Laws.zero-sum (product (sum y r) (polyAt ps y))
 
-scaled-root : (r : ℕ) (ps vs xs : List ℕ) → Zeros (scaled ps vs xs) → Zeros (scaled (rootAdded r ps) vs xs)
-unfolding scaled
-scaled-root r ps [] xs z = tt
-scaled-root r ps (v ∷ vs) [] z = tt
-scaled-root r ps (v ∷ vs) (x ∷ xs) z = (
+weighted-root : (r : ℕ) (ps vs xs : List ℕ) → Zeros (weighted ps vs xs) → Zeros (weighted (rootAdded r ps) vs xs)
+unfolding weighted
+weighted-root r ps [] xs z = tt
+weighted-root r ps (v ∷ vs) [] z = tt
+weighted-root r ps (v ∷ vs) (x ∷ xs) z = (
   ap (product v) (rootAdded-at r ps x) ∙ Laws.product-left-comm v (sum x r) (polyAt ps x) ∙ ap (product (sum x r)) (z .0) ∙ Laws.product-zero (sum x r),
-  scaled-root r ps vs xs (z .1),
+  weighted-root r ps vs xs (z .1),
 )
 
-pub located : (vs xs : List ℕ) → Zeros (scaled (locator vs xs) vs xs)
-unfolding scaled locator
+pub located : (vs xs : List ℕ) → Zeros (weighted (locator vs xs) vs xs)
+unfolding weighted locator
 located [] xs = tt
 located (v ∷ vs) [] = tt
 located (zero ∷ vs) (x ∷ xs) = (Laws.zero-product (polyAt (locator vs xs) x), located vs xs)
 located (suc v ∷ vs) (x ∷ xs) = (
   ap (product (suc v)) (rootAdded-at x (locator vs xs) x ∙ ap (λ (t : ℕ). product t (polyAt (locator vs xs) x)) (Laws.sum-self x) ∙ Laws.zero-product (polyAt (locator vs xs) x))
       ∙ Laws.product-zero (suc v),
-  scaled-root x (locator vs xs) vs xs (located vs xs),
+  weighted-root x (locator vs xs) vs xs (located vs xs),
 )
 
 -- it combines the sums to 0, wherever one begins
 pub locator-solves : (vs xs : List ℕ) (j : ℕ) → combined (locator vs xs) j vs xs ≡ 0
-locator-solves vs xs j = sym (scaled-moment (locator vs xs) j vs xs) ∙ zeros-moment j (scaled (locator vs xs) vs xs) xs (located vs xs)
+locator-solves vs xs j = sym (weighted-moment (locator vs xs) j vs xs) ∙ zeros-moment j (weighted (locator vs xs) vs xs) xs (located vs xs)
 
 length-carried : (r c : ℕ) (ps : List ℕ) → length (carried r c ps) ≡ suc (length ps)
 unfolding carried

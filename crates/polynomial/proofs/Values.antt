@@ -9,10 +9,10 @@ use Rattle.numbers.proofs.Cases.{le-or-lt, pos-of-not-zero}
 use Rattle.field.specs.Field.{sum, product, power}
 use Rattle.field.proofs.Laws
 use Rattle.polynomial.specs.Sums.{moment, Places, Values, Zeros}
-use Rattle.polynomial.specs.Polynomial.{polyAt, Elements, combined, scaled, over}
+use Rattle.polynomial.specs.Polynomial.{polyAt, Elements, combined, weighted, over}
 use Rattle.polynomial.proofs.Places.{place-lt, places-differ, values-long}
 use Rattle.polynomial.proofs.Vandermonde.{zeros-get, zeros-of, zeros-moment}
-use Rattle.polynomial.proofs.Combining.{scaled-values, scaled-moment, scaled-get}
+use Rattle.polynomial.proofs.Combining.{weighted-values, weighted-moment, weighted-get}
 use Rattle.polynomial.proofs.Division.{over-at}
 
 -- each value but the one at place i is 0
@@ -32,9 +32,9 @@ moment-only (v ∷ vs) (x ∷ xs) (suc i) j f h o =
     (moment-only vs xs i j (f .1) (omega arith) (λ k d. o (suc k) (λ e. d (omega arith))))
     ∙ Laws.zero-sum (product (getD vs i 0) (power (getD xs i 0) j))
 
-module _ (ps vs xs : List ℕ) (pl : Places xs) (f : Values vs xs) (el : Elements ps) (z : Zeros (scaled ps vs xs)) where
+module _ (ps vs xs : List ℕ) (pl : Places xs) (f : Values vs xs) (el : Elements ps) (z : Zeros (weighted ps vs xs)) where
   vanishes : (k : ℕ) → product (getD vs k 0) (polyAt ps (getD xs k 0)) ≡ 0
-  vanishes k = sym (scaled-get ps vs xs f k) ∙ zeros-get (scaled ps vs xs) z k
+  vanishes k = sym (weighted-get ps vs xs f k) ∙ zeros-get (weighted ps vs xs) z k
 
   module _ (i : ℕ) (h : i < length xs) (root : polyAt ps (getD xs i 0) ≡ 0) where
     -- what is left at another place, times how far it is from this one
@@ -49,12 +49,12 @@ module _ (ps vs xs : List ℕ) (pl : Places xs) (f : Values vs xs) (el : Element
         (Laws.product-comm q (sum y x) ∙ sym (Laws.sum-zero (product (sum y x) q)) ∙ ap (sum (product (sum y x) q)) (sym root) ∙ sym (over-at ps x y))
         ∙ vanishes k
 
-    others-gone : Only i (scaled (over ps (getD xs i 0)) vs xs)
+    others-gone : Only i (weighted (over ps (getD xs i 0)) vs xs)
     others-gone k d =
         let x : ℕ = getD xs i 0 in
         let y : ℕ = getD xs k 0 in
         let q : ℕ = polyAt (over ps x) y in
-        scaled-get (over ps x) vs xs f k
+        weighted-get (over ps x) vs xs f k
         ∙ ⊎-elim
         (λ (l : length xs ≤ k).
         ap (λ (t : ℕ). product t q) (List·getD-eq-default vs 0 (let e = values-long vs xs f in omega arith)) ∙ Laws.zero-product q)
@@ -68,6 +68,6 @@ module _ (ps vs xs : List ℕ) (pl : Places xs) (f : Values vs xs) (el : Element
         ≡ product (product (getD vs i 0) (polyAt (over ps (getD xs i 0)) (getD xs i 0))) (power (getD xs i 0) j)
     value-left j =
         let q : List ℕ = over ps (getD xs i 0) in
-        sym (scaled-moment q j vs xs)
-        ∙ moment-only (scaled q vs xs) xs i j (scaled-values q vs xs f) h others-gone
-        ∙ ap (λ (t : ℕ). product t (power (getD xs i 0) j)) (scaled-get q vs xs f i)
+        sym (weighted-moment q j vs xs)
+        ∙ moment-only (weighted q vs xs) xs i j (weighted-values q vs xs f) h others-gone
+        ∙ ap (λ (t : ℕ). product t (power (getD xs i 0) j)) (weighted-get q vs xs f i)

@@ -1,8 +1,9 @@
 -- Polynomials over the field, as lists of coefficients: the lowest first, and for the characters of a word the highest.
 use mathlib.Core.Path.{_≡_}
 use mathlib.Core.List.{List, [], _∷_}
-use Prim.Native.Nat.{ℕ, zero, suc, _<_}
-use lib.ListN.{length, getD}
+use Prim.Native.Nat.{ℕ, zero, suc}
+use lib.ListN.{length}
+use Rattle.numbers.specs.Below.{AllBelow}
 use Rattle.field.specs.Field.{sum, product, power}
 use Rattle.polynomial.specs.Sums.{moment}
 
@@ -19,7 +20,7 @@ valueAt x (c ∷ cs) = sum (product c (power x (length cs))) (valueAt x cs)
 
 -- every coefficient is an element
 abbrev pub Elements : List ℕ → Type 0
-Elements ps = (k : ℕ) → getD ps k 0 < 64
+Elements = AllBelow 64
 
 -- the polynomial is 0 at each of these
 abbrev pub ZeroAt : List ℕ → List ℕ → Type 0
@@ -32,10 +33,10 @@ combined [] j vs xs = 0
 combined (p ∷ ps) j vs xs = sum (product p (moment j vs xs)) (combined ps (suc j) vs xs)
 
 -- each value times the polynomial at its place
-unfoldable pub scaled : List ℕ → List ℕ → List ℕ → List ℕ
-scaled ps [] xs = []
-scaled ps (v ∷ vs) [] = []
-scaled ps (v ∷ vs) (x ∷ xs) = product v (polyAt ps x) ∷ scaled ps vs xs
+unfoldable pub weighted : List ℕ → List ℕ → List ℕ → List ℕ
+weighted ps [] xs = []
+weighted ps (v ∷ vs) [] = []
+weighted ps (v ∷ vs) (x ∷ xs) = product v (polyAt ps x) ∷ weighted ps vs xs
 
 -- the quotient by x + r, and a 0 after it: each coefficient is the value at r of what follows it
 unfoldable pub over : List ℕ → ℕ → List ℕ

@@ -5,9 +5,11 @@ use Prim.Native.Nat.{ℕ, zero, suc, _+_, _<_}
 use native.Mathlib.Omega.{arith}
 use lib.ListN.{getD}
 use Rattle.numbers.proofs.Cases.{pos-of-not-zero}
-use Rattle.field.specs.Field.{sum, product, total}
+use Rattle.numbers.specs.Total.{total}
+use Rattle.field.specs.Field.{sum, product}
 use Rattle.field.proofs.Laws
-use Rattle.field.proofs.Totals.{total-same, total-none, total-sum, total-scaled, total-front}
+use Rattle.numbers.proofs.Totals.{total-same, total-none}
+use Rattle.field.proofs.Totals.{total-sum, total-scaled, total-front}
 use Rattle.mender.specs.Mender.{Fits}
 use Rattle.mender.specs.Inside.{mixed}
 use Rattle.mender.proofs.Fitting.{some-kernel}

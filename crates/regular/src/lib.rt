@@ -1,6 +1,7 @@
 // Which of 63 places have eleven sums that no errors have, told at all places at once: the six windows of such sums are the rows of a regular matrix.
+ghost use mathlib.Core.List.{[], _∷_};
 ghost use Prim.Native.Nat.{_<_};
-ghost use Rattle.regular.specs.Pivots.{SumPlanes, PivotsWhere, Is2, Is3, Is4, Is5, PivotsOfSums, IsSums};
+ghost use Rattle.regular.specs.Pivots.{SumPlanes, PivotsWhere, PivotsOfSums, ElementsAt, Upper};
 ghost use Rattle.regular.specs.Promises.{NoErrorsWhere};
 use planes::Planes;
 
@@ -54,7 +55,7 @@ fn six(
     s9: Planes,
     s10: Planes,
 ) -> u64
-    ensures { λ r. ⌜ PivotsOfSums (IsSums s0 s1 s2 s3 s4 s5 s6 s7 s8 s9 s10) r ⌝ }
+    ensures { λ r. ⌜ PivotsOfSums (ElementsAt (s0 ∷ s1 ∷ s2 ∷ s3 ∷ s4 ∷ s5 ∷ s6 ∷ s7 ∷ s8 ∷ s9 ∷ s10 ∷ [])) r ⌝ }
 {
     let r00 = planes::crossed_square(s0, s2, s1);
     let r01 = planes::crossed(s0, s3, s1, s2);
@@ -109,7 +110,7 @@ fn five(
     m34: Planes,
     m44: Planes,
 ) -> u64
-    ensures { λ r. ⌜ PivotsWhere 5 (Is5 m00 m01 m02 m03 m04 m11 m12 m13 m14 m22 m23 m24 m33 m34 m44) r ⌝ }
+    ensures { λ r. ⌜ PivotsWhere 5 (Upper ((m00 ∷ m01 ∷ m02 ∷ m03 ∷ m04 ∷ []) ∷ (m11 ∷ m12 ∷ m13 ∷ m14 ∷ []) ∷ (m22 ∷ m23 ∷ m24 ∷ []) ∷ (m33 ∷ m34 ∷ []) ∷ (m44 ∷ []) ∷ [])) r ⌝ }
 {
     let r00 = planes::crossed_square(m00, m11, m01);
     let r01 = planes::crossed(m00, m12, m01, m02);
@@ -138,7 +139,7 @@ fn four(
     m23: Planes,
     m33: Planes,
 ) -> u64
-    ensures { λ r. ⌜ PivotsWhere 4 (Is4 m00 m01 m02 m03 m11 m12 m13 m22 m23 m33) r ⌝ }
+    ensures { λ r. ⌜ PivotsWhere 4 (Upper ((m00 ∷ m01 ∷ m02 ∷ m03 ∷ []) ∷ (m11 ∷ m12 ∷ m13 ∷ []) ∷ (m22 ∷ m23 ∷ []) ∷ (m33 ∷ []) ∷ [])) r ⌝ }
 {
     let r00 = planes::crossed_square(m00, m11, m01);
     let r01 = planes::crossed(m00, m12, m01, m02);
@@ -152,7 +153,7 @@ fn four(
 
 // The places where a symmetric matrix of three rows has a pivot of 0.
 fn three(m00: Planes, m01: Planes, m02: Planes, m11: Planes, m12: Planes, m22: Planes) -> u64
-    ensures { λ r. ⌜ PivotsWhere 3 (Is3 m00 m01 m02 m11 m12 m22) r ⌝ }
+    ensures { λ r. ⌜ PivotsWhere 3 (Upper ((m00 ∷ m01 ∷ m02 ∷ []) ∷ (m11 ∷ m12 ∷ []) ∷ (m22 ∷ []) ∷ [])) r ⌝ }
 {
     let r00 = planes::crossed_square(m00, m11, m01);
     let r01 = planes::crossed(m00, m12, m01, m02);
@@ -163,7 +164,7 @@ fn three(m00: Planes, m01: Planes, m02: Planes, m11: Planes, m12: Planes, m22: P
 
 // The places where a symmetric matrix of two rows has a pivot of 0.
 fn two(m00: Planes, m01: Planes, m11: Planes) -> u64
-    ensures { λ r. ⌜ PivotsWhere 2 (Is2 m00 m01 m11) r ⌝ }
+    ensures { λ r. ⌜ PivotsWhere 2 (Upper ((m00 ∷ m01 ∷ []) ∷ (m11 ∷ []) ∷ [])) r ⌝ }
 {
     let r00 = planes::crossed_square(m00, m11, m01);
     let rest = planes::zeros(r00);

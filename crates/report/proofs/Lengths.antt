@@ -27,8 +27,30 @@ use Rattle.report.specs.declared.Kind.{Kind}
 use Rattle.report.specs.declared.Kind.the-variants as K
 use Rattle.report.specs.Items.{lineFields, ringFields, blockFields, Fields}
 use Rattle.report.specs.Tray.{Bytes, Left, rest, cut, ItemLine, Items, none, early, one, Section, no-count, counted, Sections, done, stops, goes}
-use Rattle.report.specs.Printed.{wordsHeader, wordEnd, wordMore, wordCut, header, closing, Report, empty, tray, itemRoom, closingRoom, reportRoom}
+use Rattle.report.specs.Printed.{wordsHeader, wordEnd, wordMore, wordCut, header, closing, Report, empty, tray, reportRoom}
 use Rattle.report.proofs.First.{section-used}
+
+-- ---- room for any report, every field at its widest, and the longest file
+
+-- a space and so many digits
+abbrev fieldRoom : ℕ → ℕ
+fieldRoom digits = 1 + digits
+
+-- a kind; an item number up to 254; an answer of two digits; a distance or a start, up to 125; a number, a distance or a row count, up to 4095; the line end
+abbrev itemRoom : ℕ
+itemRoom = 1 + fieldRoom 3 + fieldRoom 2 + fieldRoom 3 + fieldRoom 4 + 1
+
+-- `end`, three counts up to 255, and the line end
+abbrev closingRoom : ℕ
+closingRoom = length wordEnd + 3 * fieldRoom 3 + 1
+
+-- three sections of 255 items, between the header and the closing line
+room-is : (length wordsHeader + 1) + 3 * (255 * itemRoom) + closingRoom ≡ reportRoom
+room-is = refl
+
+-- a file that is all used: the radius, 255 lines, 255 rings and 255 blocks of 255 rows, each section after its count, each block after its own
+abbrev pub longestFile : ℕ
+longestFile = 1 + (1 + 255 * 63) + (1 + 255 * 63) + (1 + 255 * (1 + 255))
 
 -- ---- the numbers of an item
 

@@ -1,7 +1,7 @@
 -- The turns of the loops, the ways out, how long a report and a file can be, and the theorems.
 pub mod Parts
 pub mod Fields
-pub mod Turns
+pub mod Loops
 pub mod First
 pub mod Lengths
 pub mod Once

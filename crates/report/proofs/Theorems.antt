@@ -9,14 +9,14 @@ use lib.Seq.{take-at, take-all, length-take-le}
 use Rattle.refusal.proofs.Laws.{one-refusal, refusal-positive}
 use Rattle.refusal.proofs.Theorems.{one-result}
 use Rattle.numbers.proofs.Cases.{le-or-lt}
-use Rattle.text.specs.Text.{lineEnd, fields, line}
+use Rattle.text.specs.Text.{fields, line}
 use Rattle.report.specs.declared.Reported.{Reported}
 use Rattle.report.specs.declared.Reported.the-variants as R
 use Rattle.report.specs.Tray.{Bytes, Left, rest, cut, Sections, kinds}
-use Rattle.report.specs.Printed.{wordEnd, wordMore, wordCut, header, closing, Report, empty, tray, reportRoom, longestFile}
+use Rattle.report.specs.Printed.{wordEnd, wordMore, wordCut, header, closing, Report, empty, tray, reportRoom, Ends}
 use Rattle.report.specs.Promises.{reportNumbers, reportTests, Shows, Reports}
 use Rattle.report.proofs.First.{bytes-take, sections-used, sections-longer}
-use Rattle.report.proofs.Lengths.{report-length}
+use Rattle.report.proofs.Lengths.{report-length, longestFile}
 use Rattle.report.proofs.Once.{one-text}
 
 -- ---- one result
@@ -76,10 +76,6 @@ longer-file file text b p =
     (le-or-lt (length file) 97415)
 
 -- ---- whole lines
-
--- a text that ends with a line's end
-abbrev pub Ends : List ℕ → Type 0
-Ends l = (s : List ℕ) × (l ≡ s ++ (lineEnd ∷ []))
 
 ends-line : (before word ns : List ℕ) → Ends (before ++ line word ns)
 unfolding line

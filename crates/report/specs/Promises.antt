@@ -12,7 +12,7 @@ use Rattle.report.specs.Printed.{Report, reportRoom}
 
 -- the numbers of a report: the answer, and the text's length
 abbrev pub reportNumbers : Reported → List ℕ
-reportNumbers (R.Text length) = 0 ∷ length ∷ []
+reportNumbers (R.Text n) = 0 ∷ n ∷ []
 reportNumbers (R.Refused r) = numberOf r ∷ 0 ∷ []
 
 -- the report asks for a buffer that has room for any

@@ -2,17 +2,18 @@
 use mathlib.Core.Path.{_≡_}
 use mathlib.Core.Bool.{cond}
 use mathlib.Core.List.{List, [], _∷_, _++_}
-use Prim.Native.Nat.{ℕ, zero, suc, _<_}
+use Prim.Native.Nat.{ℕ, zero, suc}
 use lib.Dec.{leb}
-use lib.ListN.{length, getD, take, drop}
+use lib.ListN.{length, take, drop}
+use Rattle.numbers.specs.Below.{AllBelow}
 use Rattle.text.specs.Text.{line}
 use Rattle.report.specs.declared.Kind.{Kind}
 use Rattle.report.specs.declared.Kind.the-variants as K
 use Rattle.report.specs.Items.{letter, Fields}
 
--- a file of bytes; past its end getD gives 0
+-- a file of bytes
 abbrev pub Bytes : List ℕ → Type 0
-Bytes file = (i : ℕ) → getD file i 0 < 256
+Bytes = AllBelow 256
 
 -- ---- one item
 

@@ -12,11 +12,11 @@ use borrow.Author.Tests.{lt-ltb, le-ltb, eq-eqb, ne-eqb}
 use Rattle.numbers.proofs.Cases.{le-or-lt}
 use Rattle.numbers.proofs.Range.{both, both-left, both-right, each, each-at, eq→eqb}
 use Rattle.code.specs.Word.{marks, Line, distance}
-use Rattle.ring.specs.Ring.{placed, Those, end, listed, not-listed, ListOf}
+use Rattle.ring.specs.Ring.{placed, Those, end, included, excluded, ListOf}
 use Rattle.ring.specs.Inside.{seen}
-use Rattle.ring.specs.FalseStarts.{countedFrom, falseStarts, isIn, rising, recordedStarts}
+use Rattle.ring.specs.FalseStarts.{countedFrom, with-at, markDistances, falseStarts, isIn, rising, recordedStarts}
 use Rattle.ring.proofs.Placing.{seen-lt, seen-forward, seen-turning, seen-returning, seen-backward, seen-cases}
-use Rattle.ring.proofs.marks.Marks.{with-at, markDistances, mark-distance}
+use Rattle.ring.proofs.marks.Marks.{mark-distance}
 use Rattle.ring.proofs.Alone.{marks-of-start, start-of-marks}
 use Rattle.ring.proofs.Those.{those-same}
 
@@ -73,8 +73,8 @@ rising-those js zero k = end
 rising-those js (suc n) k = by (isIn k js) refl (rising-those js n (suc k))
   where
     by : {ks : List ℕ} (b : Bool) → isIn k js ≡ b → Those (λ j. T (isIn j js)) n (suc k) ks → Those (λ j. T (isIn j js)) (suc n) k (cond b (k ∷ ks) ks)
-    by true e s = listed (subst T (sym e) tt) s
-    by false e s = not-listed (λ t. subst T e t) s
+    by true e s = included (subst T (sym e) tt) s
+    by false e s = excluded (λ t. subst T e t) s
 
 one-more : (b : Bool) (k : ℕ) (x y : List ℕ) → length x ≡ suc (length y) → length (cond b (k ∷ x) x) ≡ suc (length (cond b (k ∷ y) y))
 one-more true k x y e = ap suc e

@@ -23,7 +23,7 @@ use Rattle.code.proofs.Words.{listed-get, added-get}
 use Rattle.mender.specs.Mender.{Fits}
 use Rattle.mender.proofs.Finding.{true-false}
 use Rattle.ring.specs.declared.Undecided.{Undecided}
-use Rattle.ring.specs.Inside.{MarkSums, Mendable}
+use Rattle.ring.specs.Inside.{MarkSums, ErrorsFit}
 use Rattle.ring.specs.Marks.{MarksIn}
 use Rattle.ring.specs.Filter.{undecidedAt, MayList, NoErrorsAt, Decides}
 
@@ -81,7 +81,7 @@ module _ (h : Sums) (entries fw bw : List ℕ) (u : Undecided) (is : entries ≡
 
 -- ---- told by the filter
 
-pub told-not : (u : Undecided) (k : ℕ) (s : List ℕ) (t : ℕ) (b : Bool) → NoErrorsAt u k s → MayList u k b → b ≡ false → Tells (Mendable s t) false
+pub told-not : (u : Undecided) (k : ℕ) (s : List ℕ) (t : ℕ) (b : Bool) → NoErrorsAt u k s → MayList u k b → b ≡ false → Tells (ErrorsFit s t) false
 told-not u k s t b n m e =
     tells-no
     (λ x.

@@ -6,7 +6,7 @@ pub mod Those
 pub mod FalseStarts
 pub mod Starts
 pub mod Filtering
-pub mod Turns
+pub mod Loops
 pub mod Ways
 pub mod Changed
 pub mod Theorems

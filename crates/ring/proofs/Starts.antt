@@ -17,7 +17,7 @@ use Rattle.code.proofs.Sums.{powerSum-added}
 use Rattle.code.proofs.Lines.{marks-long, unmarked, marked-line, line-long, line-characters}
 use Rattle.mender.specs.Mender.{Word}
 use Rattle.ring.specs.Ring.{placed, Start}
-use Rattle.ring.specs.Inside.{seen, marksAt, MarkSums, Mendable}
+use Rattle.ring.specs.Inside.{seen, marksAt, MarkSums, ErrorsFit}
 use Rattle.ring.proofs.Placing.{kept, placed-again}
 use Rattle.ring.proofs.marks.Marks.{marks-at-long, marks-at-characters, marks-placed}
 
@@ -54,7 +54,7 @@ module _ (ring sums here : List ℕ) (k t : ℕ) (word : Word ring) (small : t �
   sum-is i l = added-get sums here (us .long ∙ sym (ms .long)) i ∙ ap₂ sum (us .sum-at i l) (ms .sum-at i l)
 
   -- the line within the radius, put back to its ring places, is the ring with such errors added
-  pub start-errors : Start t ring k → Mendable (added sums here) t
+  pub start-errors : Start t ring k → ErrorsFit (added sums here) t
   start-errors (l, p) =
       let back : List ℕ = placed (seen k 0) l in
       let same : length ring ≡ length (placed (seen k 0) l) = word .long ∙ sym (kept (seen k 0) .long l) in
@@ -75,7 +75,7 @@ module _ (ring sums here : List ℕ) (k t : ℕ) (word : Word ring) (small : t �
       )
 
   -- and the ring with such errors added is a line at the start
-  pub errors-start : Mendable (added sums here) t → Start t ring k
+  pub errors-start : ErrorsFit (added sums here) t → Start t ring k
   errors-start (x, f) =
       let same : length ring ≡ length x = word .long ∙ sym (f .long) in
       let long : length (added ring x) ≡ 63 = length-added ring x same ∙ word .long in
@@ -91,5 +91,5 @@ module _ (ring sums here : List ℕ) (k t : ℕ) (word : Word ring) (small : t �
         },
       )
 
-  pub start-told : (b : Bool) → Tells (Mendable (added sums here) t) b → Tells (Start t ring k) b
+  pub start-told : (b : Bool) → Tells (ErrorsFit (added sums here) t) b → Tells (Start t ring k) b
   start-told b m = record { holds = λ e. errors-start (m .holds e); fails = λ e s. m .fails e (start-errors s) }

@@ -23,16 +23,16 @@ use Rattle.ring.specs.declared.RingListing.{RingListing}
 use Rattle.ring.specs.declared.RingListing.the-variants as L
 use Rattle.ring.specs.declared.RingReading.{RingReading}
 use Rattle.ring.specs.declared.RingReading.the-variants as R
-use Rattle.ring.specs.Ring.{placed, Start, Those, ListOf}
+use Rattle.ring.specs.Ring.{placed, Start, Those, ListOf, At}
 use Rattle.ring.specs.Recording.{recorded}
-use Rattle.ring.specs.FalseStarts.{countedFrom, falseStarts, isIn, rising, recordedStarts}
+use Rattle.ring.specs.FalseStarts.{countedFrom, markDistances, falseStarts, isIn, rising, recordedStarts}
 use Rattle.ring.specs.Promises.{listingNumbers, readingNumbers, listingTests, Lists, ListsRing, readingTests, ReadsAt, ReadsRing}
 use Rattle.ring.specs.Inside.{seen}
 use Rattle.ring.proofs.Placing.{kept, placed-forward, placed-backward, seen-placed, seen-zero, seen-forward, seen-backward}
 use Rattle.ring.proofs.Recording.{recorded-long, recorded-characters, placed-recorded, recorded-only, recorded-apart}
-use Rattle.ring.proofs.marks.Marks.{markDistances, mark-distance}
+use Rattle.ring.proofs.marks.Marks.{mark-distance}
 use Rattle.ring.proofs.Alone.{starts-near, same-start, same-start-one-way, marks-of-start, start-of-marks}
-use Rattle.ring.proofs.Those.{At, one-those, those-entry, those-rise, those-all, one-of-those, all-those, parts}
+use Rattle.ring.proofs.Those.{one-those, those-entry, those-rise, those-all, one-of-those, all-those, parts}
 use Rattle.ring.proofs.Ways.{list-written, refused, read}
 use Rattle.ring.proofs.FalseStarts.{counted-lt, seen-counted, counted-seen, starts-count, starts-many, these-starts}
 

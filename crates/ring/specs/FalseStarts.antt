@@ -3,6 +3,7 @@ use mathlib.Core.Bool.{Bool, true, false, cond}
 use mathlib.Core.List.{List, [], _∷_, _++_, map}
 use Prim.Native.Nat.{ℕ, zero, suc, _+_, _-_, _%_}
 use lib.Dec.{eqb, ltb, leb}
+use lib.ListN.{set, replicate}
 
 -- the start that is j counted from start m: start j of the word at m. For j from 0 to 62 it begins at address j of that word and goes on in the
 -- same direction; for j = 63 + a it begins at address a and goes in the other
@@ -17,6 +18,15 @@ fourAway = 104 ∷ 107 ∷ 110 ∷ 114 ∷ 117 ∷ 124 ∷ []
 -- and five, all forward
 abbrev pub fiveAway : List ℕ
 fiveAway = 3 ∷ 7 ∷ 10 ∷ 53 ∷ 56 ∷ 60 ∷ []
+
+-- d at each of these starts
+unfoldable pub with-at : List ℕ → ℕ → List ℕ → List ℕ
+with-at [] d l = l
+with-at (k ∷ ks) d l = set (with-at ks d l) k d
+
+-- how far the marks at each start lie from the marks: 0 at start 0, 4 at six backward starts, 5 at six forward ones, and 6 at all others
+unfoldable pub markDistances : List ℕ
+markDistances = with-at fourAway 4 (with-at fiveAway 5 (0 ∷ replicate 125 6))
 
 -- the false starts at a radius, counted from the true start: none up to 3, six at 4, twelve at 5
 unfoldable pub falseStarts : ℕ → List ℕ

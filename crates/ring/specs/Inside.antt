@@ -2,10 +2,9 @@
 use mathlib.Core.Path.{_≡_}
 use mathlib.Core.Bool.{cond}
 use mathlib.Core.List.{List}
-use Prim.Native.Nat.{ℕ, min, _+_, _-_, _*_, _%_, _<_, _≤_}
+use Prim.Native.Nat.{ℕ, min, _+_, _-_, _%_, _≤_}
 use lib.Dec.{ltb}
-use lib.ListN.{length, getD}
-use Rattle.field.specs.Field.{product, α, power}
+use lib.ListN.{length}
 use Rattle.code.specs.Word.{Characters, marks}
 use Rattle.code.specs.Inside.{PowerSums}
 use Rattle.mender.specs.Mender.{Fits}
@@ -24,11 +23,6 @@ marksAt k = placed (seen k 0) marks
 abbrev pub MarkSums : ℕ → List ℕ → Type 0
 MarkSums k sums = PowerSums (marksAt k) sums
 
--- each sum S_j times α^-j, which is α^(62 j): the sums of a word turned back by one character
-pub record TurnedBack (sums r : List ℕ) : Type 0 where
-  pub long : length r ≡ 11
-  pub entry : (i : ℕ) → i < 11 → getD r i 0 ≡ product (getD sums i 0) (power α ((58 + i) * 62))
-
 -- what the loop over the starts asks for: a ring of 63 characters, a radius of at most 5, and room for 126 starts
 pub record Listable (ring : List ℕ) (t room : ℕ) : Type 0 where
   pub long : length ring ≡ 63
@@ -37,8 +31,8 @@ pub record Listable (ring : List ℕ) (t room : ℕ) : Type 0 where
   pub wide : room ≡ 126
 
 -- at most t errors, t counting up to 5, have these eleven power sums
-abbrev pub Mendable : List ℕ → ℕ → Type 0
-Mendable sums t = (errors : List ℕ) × Fits sums 11 (min t 5) errors
+abbrev pub ErrorsFit : List ℕ → ℕ → Type 0
+ErrorsFit sums t = (errors : List ℕ) × Fits sums 11 (min t 5) errors
 
 -- the ring place of address a at start k
 abbrev pub placeOf : ℕ → ℕ → ℕ

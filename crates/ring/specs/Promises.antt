@@ -21,7 +21,7 @@ listingNumbers (L.Refused r) = numberOf r ∷ 0 ∷ []
 
 -- the numbers of a reading: the answer, the start, the line's number, its distance from the word there, and the first and the last changed address
 abbrev pub readingNumbers : RingReading → List ℕ
-readingNumbers (R.Line start number distance first last) = 0 ∷ start ∷ number ∷ distance ∷ first ∷ last ∷ []
+readingNumbers (R.Line start n d first last) = 0 ∷ start ∷ n ∷ d ∷ first ∷ last ∷ []
 readingNumbers (R.Refused r) = numberOf r ∷ 0 ∷ 0 ∷ 0 ∷ 0 ∷ 0 ∷ []
 
 -- listing asks for a ring of 63 characters, an output of 126 bytes and a radius of at most 5

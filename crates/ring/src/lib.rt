@@ -7,7 +7,7 @@ ghost use Rattle.refusal.specs.Promise.{Tells};
 ghost use Rattle.sums.specs.Held.{eleven};
 ghost use Rattle.ring.specs.Ring.{placed};
 ghost use Rattle.ring.specs.Promises.{listingNumbers, readingNumbers, Lists, ListsRing, ReadsRing};
-ghost use Rattle.ring.specs.Inside.{Listable, Mendable, placeOf};
+ghost use Rattle.ring.specs.Inside.{Listable, ErrorsFit, placeOf};
 ghost use Rattle.ring.specs.Filter.{MayList, NoErrorsAt, Decides};
 use refusal::Refusal;
 use sums::Sums;
@@ -165,7 +165,7 @@ fn is_undecided(undecided: Undecided, start: usize) -> bool
 fn listable(undecided: Undecided, start: u8, sums: Sums, radius: u8) -> bool
     requires { ⌜ start < 126 ⌝ }
     requires { ⌜ NoErrorsAt undecided start (eleven sums) ⌝ }
-    ensures { λ r. ⌜ Tells (Mendable (eleven sums) radius) r ⌝ }
+    ensures { λ r. ⌜ Tells (ErrorsFit (eleven sums) radius) r ⌝ }
 {
     if !is_undecided(undecided, start as usize) {
         return false;
@@ -175,7 +175,7 @@ fn listable(undecided: Undecided, start: u8, sums: Sums, radius: u8) -> bool
 
 // Whether some errors, as many as the radius at most, have these power sums: the radius counts up to 5.
 fn mendable(sums: Sums, radius: u8) -> bool
-    ensures { λ r. ⌜ Tells (Mendable (eleven sums) radius) r ⌝ }
+    ensures { λ r. ⌜ Tells (ErrorsFit (eleven sums) radius) r ⌝ }
 {
     let errors = mender::mend_eleven(sums, radius as usize);
     errors.found

@@ -6,9 +6,10 @@ use Prim.Native.Nat.{ℕ, zero, suc, _+_, _-_, _*_, _/_, _%_, _<_}
 use native.Mathlib.Nat.{eq-or-lt-of-le, le-of-suc-le-suc, mod-eq-of-lt}
 use native.Mathlib.Omega.{arith}
 use lib.ListN.{length, getD}
-use Rattle.field.specs.Field.{sum, product, α, power, total}
+use Rattle.numbers.specs.Total.{total}
+use Rattle.numbers.proofs.Totals.{total-same}
+use Rattle.field.specs.Field.{sum, product, α, power}
 use Rattle.field.proofs.Laws
-use Rattle.field.proofs.Totals.{total-same}
 use Rattle.lanes.specs.Lanes.{pack, lane}
 use Rattle.lanes.proofs.Laws.{pack-same, lane-pack, lane-after, pack-lanes, pack-last, pack-split}
 use Rattle.terms.specs.Terms.{point}
@@ -31,7 +32,7 @@ outer-sum w h i = sym (powerSum-value (58 + i + i / 5) w h)
 -- ---- S_0
 
 total-low : (n : ℕ) (f : ℕ → ℕ) → total n f % 64 ≡ total n (λ a. f a % 64)
-unfolding total
+unfolding total sum
 total-low zero f = refl
 total-low (suc n) f = Laws.sum-low (total n f) (f n) ∙ ap (λ (t : ℕ). sum t (f n % 64)) (total-low n f)
 

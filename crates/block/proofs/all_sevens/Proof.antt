@@ -2,7 +2,7 @@
 use Prim.Native.Nat.{_≤_, _-_}
 use lib.ListN.{length}
 use borrow.Author.Needs.{needs}
-use Rattle.block.proofs.Turns.{SevensTo, sevens-none, sevens-more, sevens-fail, sevens-all}
+use Rattle.block.proofs.Loops.{SevensTo, sevens-none, sevens-more, sevens-fail, sevens-all}
 use Rattle.block.proofs.all_sevens.Statement.{statement}
 use Rattle.block.proofs.all_sevens.Tie as tie
 

@@ -6,7 +6,7 @@ use lib.ListN.{length}
 use denote.Ref.{now}
 use borrow.Author.Needs.{needs}
 use Rattle.block.specs.Lanes.{CountedTo}
-use Rattle.block.proofs.Turns.{counted-odd, counted-even, counted-all}
+use Rattle.block.proofs.Loops.{counted-odd, counted-even, counted-all}
 use Rattle.block.proofs.faults_of.Statement.{statement}
 use Rattle.block.proofs.faults_of.Tie as tie
 

@@ -4,7 +4,7 @@ use mathlib.Core.Logic.{⊎-elim}
 use lib.ListN.{length}
 use borrow.Author.Needs.{needs}
 use Rattle.block.specs.Inside.{wanted}
-use Rattle.block.proofs.Turns.{EightsTo, eights-none, eights-odd, eights-even, eights-all}
+use Rattle.block.proofs.Loops.{EightsTo, eights-none, eights-odd, eights-even, eights-all}
 use Rattle.block.proofs.faults_of_eights.Statement.{statement}
 use Rattle.block.proofs.faults_of_eights.Tie as tie
 

@@ -4,7 +4,7 @@ use mathlib.Core.Path.{_∙_, sym}
 use lib.ListN.{length, length-set}
 use borrow.Author.Needs.{needs}
 use Rattle.block.specs.Inside.{wanted}
-use Rattle.block.proofs.Turns.{PutTo, put-none, put-more, put-all}
+use Rattle.block.proofs.Loops.{PutTo, put-none, put-more, put-all}
 use Rattle.block.proofs.put_block.Statement.{statement}
 use Rattle.block.proofs.put_block.Tie as tie
 

@@ -2,7 +2,7 @@
 use Prim.Native.Nat.{_-_}
 use lib.ListN.{length}
 use borrow.Author.Needs.{needs}
-use Rattle.eights.proofs.Turns.{LowTo, low-start, low-again, low-all, low-few}
+use Rattle.eights.proofs.Loops.{LowTo, low-start, low-again, low-all, low-few}
 use Rattle.eights.proofs.all_low.Statement.{statement}
 use Rattle.eights.proofs.all_low.Tie as tie
 

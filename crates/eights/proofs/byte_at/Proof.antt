@@ -1,6 +1,6 @@
 -- `eights::byte_at` meets its contract: past the end a list has 0.
 use borrow.Author.Needs.{needs}
-use Rattle.eights.proofs.Turns.{past-end}
+use Rattle.eights.proofs.Loops.{past-end}
 use Rattle.eights.proofs.byte_at.Statement.{statement}
 use Rattle.eights.proofs.byte_at.Tie as tie
 

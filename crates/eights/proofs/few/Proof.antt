@@ -1,6 +1,6 @@
 -- `eights::few` meets its contract: each byte is that of the list, or 0 past its end.
 use borrow.Author.Needs.{needs}
-use Rattle.eights.proofs.Turns.{few-holds}
+use Rattle.eights.proofs.Loops.{few-holds}
 use Rattle.eights.proofs.few.Statement.{statement}
 use Rattle.eights.proofs.few.Tie as tie
 

@@ -2,7 +2,7 @@
 use Prim.Native.Nat.{_-_}
 use lib.ListN.{length}
 use borrow.Author.Needs.{needs}
-use Rattle.eights.proofs.Turns.{XorTo, xor-start, xor-again, xor-all, xor-few}
+use Rattle.eights.proofs.Loops.{XorTo, xor-start, xor-again, xor-all, xor-few}
 use Rattle.eights.proofs.xor_of.Statement.{statement}
 use Rattle.eights.proofs.xor_of.Tie as tie
 

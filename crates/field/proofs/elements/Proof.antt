@@ -1,6 +1,6 @@
 -- `field::elements` meets its contract: each return tells whether both operands are at most 63.
 use borrow.Author.Needs.{needs}
-use Rattle.field.proofs.Turns.{first-over, second-over, none-over}
+use Rattle.field.proofs.Loops.{first-over, second-over, none-over}
 use Rattle.field.proofs.elements.Statement.{statement}
 use Rattle.field.proofs.elements.Tie as tie
 

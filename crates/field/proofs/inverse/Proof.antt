@@ -1,6 +1,6 @@
 -- `field::inverse` meets its contract: each entry is computed to have the product 1 with its number, and the last arm is never reached.
 use Rattle.field.specs.Field.{sum, timesX, shifted, product}
-use Rattle.field.proofs.Turns.{inverse-entry, inverse-last}
+use Rattle.field.proofs.Loops.{inverse-entry, inverse-last}
 use Rattle.field.proofs.inverse.Statement.{statement}
 use Rattle.field.proofs.inverse.Tie as tie
 

@@ -1,6 +1,6 @@
 -- `field::over` meets its contract: what is returned is u times the inverse of v, which is not 0.
 use borrow.Author.Needs.{needs}
-use Rattle.field.proofs.Turns.{quotient-over}
+use Rattle.field.proofs.Loops.{quotient-over}
 use Rattle.field.proofs.over.Statement.{statement}
 use Rattle.field.proofs.over.Tie as tie
 

@@ -1,7 +1,7 @@
 -- `field::product` meets its contract: each return is one way in which an operation ends.
 use borrow.Author.Needs.{needs}
 use Rattle.refusal.proofs.Ladder.{verdicts}
-use Rattle.field.proofs.Turns.{refused, with-value}
+use Rattle.field.proofs.Loops.{refused, with-value}
 use Rattle.field.proofs.product.Statement.{statement}
 use Rattle.field.proofs.product.Tie as tie
 

@@ -1,7 +1,7 @@
 -- `field::quotient` meets its contract: each return is one way in which a division ends; what is divided by is not 0.
 use borrow.Author.Needs.{needs}
 use Rattle.refusal.proofs.Ladder.{told-yes, verdicts}
-use Rattle.field.proofs.Turns.{refused, with-value, by-nothing, not-nothing, by-something, by-low-bits}
+use Rattle.field.proofs.Loops.{refused, with-value, by-nothing, not-nothing, by-something, by-low-bits}
 use Rattle.field.proofs.quotient.Statement.{statement}
 use Rattle.field.proofs.quotient.Tie as tie
 

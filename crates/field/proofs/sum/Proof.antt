@@ -1,7 +1,7 @@
 -- `field::sum` meets its contract: each return is one way in which an operation ends.
 use borrow.Author.Needs.{needs}
 use Rattle.refusal.proofs.Ladder.{verdicts}
-use Rattle.field.proofs.Turns.{refused, with-value}
+use Rattle.field.proofs.Loops.{refused, with-value}
 use Rattle.field.proofs.sum.Statement.{statement}
 use Rattle.field.proofs.sum.Tie as tie
 

@@ -1,6 +1,6 @@
 -- `lanes::doubled` meets its contract: each lane by itself.
 use borrow.Author.Needs.{needs}
-use Rattle.lanes.proofs.Turns.{low-fits, high-fits, doubled-lanes}
+use Rattle.lanes.proofs.Loops.{low-fits, high-fits, doubled-lanes}
 use Rattle.lanes.proofs.doubled.Statement.{statement}
 use Rattle.lanes.proofs.doubled.Tie as tie
 

@@ -1,7 +1,7 @@
 -- `lanes::products` meets its contract: after i turns i of the six bits of each lane of q are added.
 use borrow.Author.Needs.{needs}
 use Prim.Native.Nat.{_-_, _≤_}
-use Rattle.lanes.proofs.Turns.{ProductsTo, spread-fits, products-none, products-again, products-all}
+use Rattle.lanes.proofs.Loops.{ProductsTo, spread-fits, products-none, products-again, products-all}
 use Rattle.lanes.proofs.products.Statement.{statement}
 use Rattle.lanes.proofs.products.Tie as tie
 

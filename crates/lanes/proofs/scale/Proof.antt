@@ -1,7 +1,7 @@
 -- `lanes::scale` meets its contract: after i turns i of the six bits of f are added to every lane.
 use borrow.Author.Needs.{needs}
 use Prim.Native.Nat.{_-_}
-use Rattle.lanes.proofs.Turns.{ScaledTo, bit-fits, scaled-none, scaled-again, scaled-all}
+use Rattle.lanes.proofs.Loops.{ScaledTo, bit-fits, scaled-none, scaled-again, scaled-all}
 use Rattle.lanes.proofs.scale.Statement.{statement}
 use Rattle.lanes.proofs.scale.Tie as tie
 

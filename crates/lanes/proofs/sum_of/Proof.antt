@@ -1,7 +1,7 @@
 -- `lanes::sum_of` meets its contract: the lanes passed are added, and q holds those after them.
 use borrow.Author.Needs.{needs}
 use Prim.Native.Nat.{_-_}
-use Rattle.lanes.proofs.Turns.{SummedTo, summed-none, summed-again, summed-all}
+use Rattle.lanes.proofs.Loops.{SummedTo, summed-none, summed-again, summed-all}
 use Rattle.lanes.proofs.sum_of.Statement.{statement}
 use Rattle.lanes.proofs.sum_of.Tie as tie
 

@@ -1,6 +1,6 @@
 -- `lanes::times` meets its contract: the lowest lane.
 use borrow.Author.Needs.{needs}
-use Rattle.lanes.proofs.Turns.{lowest-lane}
+use Rattle.lanes.proofs.Loops.{lowest-lane}
 use Rattle.lanes.proofs.times.Statement.{statement}
 use Rattle.lanes.proofs.times.Tie as tie
 

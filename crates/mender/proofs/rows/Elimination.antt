@@ -16,7 +16,7 @@ use Rattle.numbers.proofs.Cases.{le-or-lt}
 use Rattle.field.specs.Field.{sum, product}
 use Rattle.field.specs.Inside.{inverse}
 use Rattle.field.proofs.Laws
-use Rattle.field.proofs.Totals.{total-only}
+use Rattle.numbers.proofs.Totals.{total-only}
 use Rattle.lanes.specs.Lanes.{pack, lane}
 use Rattle.lanes.proofs.Laws.{lane-after, pack-same, lane-pack, pack-more, pack-lanes, xor-pack}
 use Rattle.mender.specs.Rows.{woven, SumsIn, UnitRows, PivotRow, factor, RowsCleared, RowsHold, RowsFrom, FirstRow, Coefficients}

@@ -7,10 +7,12 @@ use native.Mathlib.Nat.{eq-or-lt-of-le, le-of-suc-le-suc}
 use native.Mathlib.Omega.{arith}
 use lib.ListN.{getD, length, List·getD-eq-default}
 use Rattle.numbers.proofs.Cases.{le-or-lt, same-or-not}
-use Rattle.field.specs.Field.{sum, product, total}
+use Rattle.numbers.specs.Total.{total}
+use Rattle.field.specs.Field.{sum, product}
 use Rattle.field.specs.Inside.{inverse}
 use Rattle.field.proofs.Laws
-use Rattle.field.proofs.Totals.{total-same, total-none, total-sum, total-scaled, total-swap, total-lt, total-only}
+use Rattle.numbers.proofs.Totals.{total-same, total-none, total-swap, total-lt, total-only}
+use Rattle.field.proofs.Totals.{total-sum, total-scaled}
 use Rattle.mender.specs.Inside.{mixed, at, Degree, Spanned}
 
 -- the first n of six unit vectors

@@ -1,30 +1,24 @@
 -- The value at a root is the quotient of two polynomials in its place: one of the locator and the sums, the other the locator's derivative.
 use mathlib.Core.Path.{_≡_, refl, sym, ap, ap₂, _∙_}
 use mathlib.Core.Logic.{⊎-elim}
-use mathlib.Core.List.{List, [], _∷_}
+use mathlib.Core.List.{List}
 use Prim.Native.Nat.{ℕ, zero, suc, _+_, _-_, _<_, _≤_}
 use native.Mathlib.Nat.{zero-add, add-suc, suc-add}
 use native.Mathlib.Omega.{arith}
 use lib.ListN.{getD, length, drop, List·getD-eq-default}
 use borrow.Author.Tests.{eq-eqb, ne-eqb}
 use Rattle.numbers.proofs.Cases.{same-or-not}
-use Rattle.field.specs.Field.{sum, product, power, total}
+use Rattle.numbers.specs.Total.{total}
+use Rattle.field.specs.Field.{sum, product, power}
 use Rattle.field.proofs.Laws
-use Rattle.field.proofs.Totals.{total-same, total-none, total-sum, total-scaled, total-front}
+use Rattle.numbers.proofs.Totals.{total-same, total-none}
+use Rattle.field.proofs.Totals.{total-sum, total-scaled, total-front}
 use Rattle.polynomial.specs.Polynomial.{polyAt, over}
-use Rattle.polynomial.proofs.Division.{over-get, poly-past}
+use Rattle.polynomial.proofs.Division.{over-get, poly-past, tail-value}
 use Rattle.code.specs.Word.{listed}
 use Rattle.mender.specs.Inside.{mixed, coef, valueOf}
 use Rattle.mender.specs.Values.{evaluated, inverseOrNone, Kills}
 use Rattle.mender.proofs.rows.Windows.{mixed-lt}
-
--- a coefficient is the value of its tail, and x times that of the next
-tail-at : (ps : List ℕ) (x k : ℕ) → polyAt (drop k ps) x ≡ sum (getD ps k 0) (product x (polyAt (drop (suc k) ps) x))
-unfolding polyAt
-tail-at [] x zero = sym (ap (sum 0) (Laws.product-zero x) ∙ Laws.sum-self 0)
-tail-at [] x (suc k) = sym (ap (sum 0) (Laws.product-zero x) ∙ Laws.sum-self 0)
-tail-at (p ∷ ps) x zero = refl
-tail-at (p ∷ ps) x (suc k) = tail-at ps x k
 
 from-front : (a b : ℕ) → a ≡ sum (sum a b) b
 from-front a b = sym (Laws.sum-assoc a b b ∙ ap (sum a) (Laws.sum-self b) ∙ Laws.sum-zero a)
@@ -38,7 +32,7 @@ module _ (p s : List ℕ) (x : ℕ) (wide : length p ≡ 6) where
 
   tail-next : (k : ℕ) → tail k ≡ sum (getD p k 0) (product x (tail (suc k)))
   unfolding tail
-  tail-next k = tail-at p x k
+  tail-next k = tail-value p x k
 
   tail-none : (k : ℕ) → 6 ≤ k → tail k ≡ 0
   unfolding tail
@@ -53,7 +47,7 @@ module _ (p s : List ℕ) (x : ℕ) (wide : length p ≡ 6) where
   coefficient n m = total 5 (λ k. product (getD p (suc (m + k)) 0) (getD s (n + k) 0))
 
   mixed-from : (n : ℕ) → mixed (coef (over p x)) s n ≡ mixedFrom n 0
-  unfolding mixed mixedFrom tail total
+  unfolding mixed mixedFrom tail total sum
   mixed-from n =
       ap₂ sum
       (total-same 5 (λ k. product (getD (over p x) k 0) (getD s (n + k) 0)) (λ k. product (tail (suc (0 + k))) (getD s (n + k) 0))
@@ -154,7 +148,7 @@ module _ (p s : List ℕ) (x : ℕ) (wide : length p ≡ 6) where
 
   slope-next : (k : ℕ) → slope k ≡ sum (tail (suc k)) (product x (slope (suc k)))
   unfolding slope tail
-  slope-next k = tail-at (over p x) x k ∙ ap (λ (t : ℕ). sum t (product x (polyAt (drop (suc k) (over p x)) x))) (over-get p x k)
+  slope-next k = tail-value (over p x) x k ∙ ap (λ (t : ℕ). sum t (product x (polyAt (drop (suc k) (over p x)) x))) (over-get p x k)
 
   slope-none : (k : ℕ) → 5 ≤ k → slope k ≡ 0
   unfolding slope tail

@@ -10,10 +10,12 @@ use borrow.Author.Tests.{eq-eqb, ne-eqb}
 use lib.Bits.{bitXor}
 use lib.ListN.{getD}
 use Rattle.numbers.proofs.Cases.{same-or-not}
-use Rattle.field.specs.Field.{sum, product, α, power, total}
+use Rattle.numbers.specs.Total.{total}
+use Rattle.field.specs.Field.{sum, product, α, power}
 use Rattle.field.specs.Inside.{inverse}
 use Rattle.field.proofs.Laws
-use Rattle.field.proofs.Totals.{total-same, total-front}
+use Rattle.numbers.proofs.Totals.{total-same}
+use Rattle.field.proofs.Totals.{total-front}
 use Rattle.lanes.specs.Lanes.{pack, lane}
 use Rattle.lanes.proofs.Laws.{lane-lt, lane-zero, lane-suc, lane-xor}
 use Rattle.polynomial.specs.Polynomial.{polyAt}

@@ -1,6 +1,6 @@
 -- `planes::crossed` meets its contract: each of the two products is made bit by bit, and they are added.
 use borrow.Author.Needs.{needs}
-use Rattle.planes.proofs.Turns.{multiplied, crossed-planes}
+use Rattle.planes.proofs.Loops.{multiplied, crossed-planes}
 use Rattle.planes.proofs.crossed.Statement.{statement}
 use Rattle.planes.proofs.crossed.Tie as tie
 

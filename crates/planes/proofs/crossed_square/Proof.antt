@@ -1,6 +1,6 @@
 -- `planes::crossed_square` meets its contract: the product is made bit by bit, and the square is added.
 use borrow.Author.Needs.{needs}
-use Rattle.planes.proofs.Turns.{multiplied, crossed-planes}
+use Rattle.planes.proofs.Loops.{multiplied, crossed-planes}
 use Rattle.planes.proofs.crossed_square.Statement.{statement}
 use Rattle.planes.proofs.crossed_square.Tie as tie
 

@@ -1,6 +1,6 @@
 -- `planes::everywhere` meets its contract: each of the six bits is spread.
 use borrow.Author.Needs.{needs}
-use Rattle.planes.proofs.Turns.{everywhere-bits}
+use Rattle.planes.proofs.Loops.{everywhere-bits}
 use Rattle.planes.proofs.everywhere.Statement.{statement}
 use Rattle.planes.proofs.everywhere.Tie as tie
 

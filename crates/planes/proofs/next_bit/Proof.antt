@@ -1,6 +1,6 @@
 -- `planes::next_bit` meets its contract: the three steps, one after the other.
 use borrow.Author.Needs.{needs}
-use Rattle.planes.proofs.Turns.{next-bit}
+use Rattle.planes.proofs.Loops.{next-bit}
 use Rattle.planes.proofs.next_bit.Statement.{statement}
 use Rattle.planes.proofs.next_bit.Tie as tie
 

@@ -1,6 +1,6 @@
 -- `planes::only_at` meets its contract: each plane is masked.
 use mathlib.Core.Path.{refl}
-use Rattle.planes.proofs.Turns.{only-planes}
+use Rattle.planes.proofs.Loops.{only-planes}
 use Rattle.planes.proofs.only_at.Statement.{statement}
 use Rattle.planes.proofs.only_at.Tie as tie
 

@@ -1,6 +1,6 @@
 -- `planes::plus` meets its contract: each plane is added to its own.
 use mathlib.Core.Path.{refl}
-use Rattle.planes.proofs.Turns.{added-planes}
+use Rattle.planes.proofs.Loops.{added-planes}
 use Rattle.planes.proofs.plus.Statement.{statement}
 use Rattle.planes.proofs.plus.Tie as tie
 

@@ -1,6 +1,6 @@
 -- `planes::roots` meets its contract: by Horner's rule, from the highest coefficient down, at every place.
 use borrow.Author.Needs.{needs}
-use Rattle.planes.proofs.Turns.{TakenFrom, taken-last, taken-again, taken-all}
+use Rattle.planes.proofs.Loops.{TakenFrom, taken-last, taken-again, taken-all}
 use Rattle.planes.proofs.roots.Statement.{statement}
 use Rattle.planes.proofs.roots.Tie as tie
 

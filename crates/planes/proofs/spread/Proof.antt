@@ -1,6 +1,6 @@
 -- `planes::spread` meets its contract: the bit times 63 ones.
 use borrow.Author.Needs.{needs}
-use Rattle.planes.proofs.Turns.{spread-bit}
+use Rattle.planes.proofs.Loops.{spread-bit}
 use Rattle.planes.proofs.spread.Statement.{statement}
 use Rattle.planes.proofs.spread.Tie as tie
 

@@ -1,6 +1,6 @@
 -- `planes::square` meets its contract: the square of each of the 64 elements is computed.
 use mathlib.Core.Path.{refl}
-use Rattle.planes.proofs.Turns.{square-planes}
+use Rattle.planes.proofs.Loops.{square-planes}
 use Rattle.planes.proofs.square.Statement.{statement}
 use Rattle.planes.proofs.square.Tie as tie
 

@@ -1,6 +1,6 @@
 -- `planes::times_place` meets its contract: the constants hold the bits of the powers of α, which a computed test shows.
 use borrow.Author.Needs.{needs}
-use Rattle.planes.proofs.Turns.{place-planes}
+use Rattle.planes.proofs.Loops.{place-planes}
 use Rattle.field.specs.Field.{sum, timesX, shifted, product, power}
 use Rattle.planes.proofs.times_place.Statement.{statement}
 use Rattle.planes.proofs.times_place.Tie as tie

@@ -1,6 +1,6 @@
 -- `planes::times_x` meets its contract: the planes move up by one, and the highest comes back twice.
 use mathlib.Core.Path.{refl}
-use Rattle.planes.proofs.Turns.{doubled-planes}
+use Rattle.planes.proofs.Loops.{doubled-planes}
 use Rattle.planes.proofs.times_x.Statement.{statement}
 use Rattle.planes.proofs.times_x.Tie as tie
 

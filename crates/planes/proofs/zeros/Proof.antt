@@ -1,6 +1,6 @@
 -- `planes::zeros` meets its contract: none of the six bits is set.
 use mathlib.Core.Path.{refl}
-use Rattle.planes.proofs.Turns.{zero-planes}
+use Rattle.planes.proofs.Loops.{zero-planes}
 use Rattle.planes.proofs.zeros.Statement.{statement}
 use Rattle.planes.proofs.zeros.Tie as tie
 

@@ -4,7 +4,7 @@ use mathlib.Core.Path.{sym, ap₂, _∙_}
 use Rattle.field.specs.Field.{sum, product}
 use Rattle.planes.proofs.Bits.{or-between}
 use Rattle.regular.specs.Pivots.{reduced, Pivots}
-use Rattle.regular.proofs.Turns.{left-none, right-none}
+use Rattle.regular.proofs.Loops.{left-none, right-none, _next_}
 use Rattle.regular.proofs.four.Statement.{statement}
 use Rattle.regular.proofs.four.Tie as tie
 
@@ -20,15 +20,14 @@ returns c =
     let k6 = k5 .before in
     record {
       pivots = λ l b z m h. (
-        (λ e. c .zeros .ensures .other l b (left-none (or-between (c .zeros .result) (k0 .three .result) l) z) (sym (h .0) ∙ e)),
-        k0 .three .ensures .pivots l b (right-none (or-between (c .zeros .result) (k0 .three .result) l) z) (reduced m) (
-          ap₂ sum (ap₂ product (h .0) (h .4)) (ap₂ product (h .1) (h .1)) ∙ sym (k6 .crossed-square .ensures .at l),
-          ap₂ sum (ap₂ product (h .0) (h .5)) (ap₂ product (h .1) (h .2)) ∙ sym (k5 .crossed .ensures .at l),
-          ap₂ sum (ap₂ product (h .0) (h .6)) (ap₂ product (h .1) (h .3)) ∙ sym (k4 .crossed2 .ensures .at l),
-          ap₂ sum (ap₂ product (h .0) (h .7)) (ap₂ product (h .2) (h .2)) ∙ sym (k3 .crossed-square2 .ensures .at l),
-          ap₂ sum (ap₂ product (h .0) (h .8)) (ap₂ product (h .2) (h .3)) ∙ sym (k2 .crossed3 .ensures .at l),
-          ap₂ sum (ap₂ product (h .0) (h .9)) (ap₂ product (h .3) (h .3)) ∙ sym (k1 .crossed-square3 .ensures .at l),
-        ),
+        (λ e. c .zeros .ensures .other l b (left-none (or-between (c .zeros .result) (k0 .three .result) l) z) (sym (h .0 .0) ∙ e)),
+        k0 .three .ensures .pivots l b (right-none (or-between (c .zeros .result) (k0 .three .result) l) z) (reduced m)
+            (((ap₂ sum (ap₂ product (h .0 .0) (h .1 .0 .0)) (ap₂ product (h .0 .1 .0) (h .0 .1 .0)) ∙ sym (k6 .crossed-square .ensures .at l))
+            next (ap₂ sum (ap₂ product (h .0 .0) (h .1 .0 .1 .0)) (ap₂ product (h .0 .1 .0) (h .0 .1 .1 .0)) ∙ sym (k5 .crossed .ensures .at l))
+            next (ap₂ sum (ap₂ product (h .0 .0) (h .1 .0 .1 .1 .0)) (ap₂ product (h .0 .1 .0) (h .0 .1 .1 .1 .0)) ∙ sym (k4 .crossed2 .ensures .at l)) next tt)
+            next ((ap₂ sum (ap₂ product (h .0 .0) (h .1 .1 .0 .0)) (ap₂ product (h .0 .1 .1 .0) (h .0 .1 .1 .0)) ∙ sym (k3 .crossed-square2 .ensures .at l))
+            next (ap₂ sum (ap₂ product (h .0 .0) (h .1 .1 .0 .1 .0)) (ap₂ product (h .0 .1 .1 .0) (h .0 .1 .1 .1 .0)) ∙ sym (k2 .crossed3 .ensures .at l)) next tt)
+            next ((ap₂ sum (ap₂ product (h .0 .0) (h .1 .1 .1 .0 .0)) (ap₂ product (h .0 .1 .1 .1 .0) (h .0 .1 .1 .1 .0)) ∙ sym (k1 .crossed-square3 .ensures .at l)) next tt) next tt),
       );
     }
 

@@ -5,7 +5,7 @@ use Prim.Native.Nat.{_+_}
 use Rattle.field.specs.Field.{sum, product}
 use Rattle.planes.proofs.Bits.{or-between}
 use Rattle.regular.specs.Pivots.{reduced, Pivots}
-use Rattle.regular.proofs.Turns.{left-none, right-none}
+use Rattle.regular.proofs.Loops.{left-none, right-none, _next_}
 use Rattle.regular.proofs.six.Statement.{statement}
 use Rattle.regular.proofs.six.Tie as tie
 
@@ -31,23 +31,22 @@ returns c =
     record {
       pivots = λ l b z m h. (
         (λ e. c .zeros .ensures .other l b (left-none (or-between (c .zeros .result) (k0 .five .result) l) z) (sym (h .0) ∙ e)),
-        k0 .five .ensures .pivots l b (right-none (or-between (c .zeros .result) (k0 .five .result) l) z) (reduced (λ i j. m (i + j))) (
-          ap₂ sum (ap₂ product (h .0) (h .2)) (ap₂ product (h .1) (h .1)) ∙ sym (k15 .crossed-square .ensures .at l),
-          ap₂ sum (ap₂ product (h .0) (h .3)) (ap₂ product (h .1) (h .2)) ∙ sym (k14 .crossed .ensures .at l),
-          ap₂ sum (ap₂ product (h .0) (h .4)) (ap₂ product (h .1) (h .3)) ∙ sym (k13 .crossed2 .ensures .at l),
-          ap₂ sum (ap₂ product (h .0) (h .5)) (ap₂ product (h .1) (h .4)) ∙ sym (k12 .crossed3 .ensures .at l),
-          ap₂ sum (ap₂ product (h .0) (h .6)) (ap₂ product (h .1) (h .5)) ∙ sym (k11 .crossed4 .ensures .at l),
-          ap₂ sum (ap₂ product (h .0) (h .4)) (ap₂ product (h .2) (h .2)) ∙ sym (k10 .crossed-square2 .ensures .at l),
-          ap₂ sum (ap₂ product (h .0) (h .5)) (ap₂ product (h .2) (h .3)) ∙ sym (k9 .crossed5 .ensures .at l),
-          ap₂ sum (ap₂ product (h .0) (h .6)) (ap₂ product (h .2) (h .4)) ∙ sym (k8 .crossed6 .ensures .at l),
-          ap₂ sum (ap₂ product (h .0) (h .7)) (ap₂ product (h .2) (h .5)) ∙ sym (k7 .crossed7 .ensures .at l),
-          ap₂ sum (ap₂ product (h .0) (h .6)) (ap₂ product (h .3) (h .3)) ∙ sym (k6 .crossed-square3 .ensures .at l),
-          ap₂ sum (ap₂ product (h .0) (h .7)) (ap₂ product (h .3) (h .4)) ∙ sym (k5 .crossed8 .ensures .at l),
-          ap₂ sum (ap₂ product (h .0) (h .8)) (ap₂ product (h .3) (h .5)) ∙ sym (k4 .crossed9 .ensures .at l),
-          ap₂ sum (ap₂ product (h .0) (h .8)) (ap₂ product (h .4) (h .4)) ∙ sym (k3 .crossed-square4 .ensures .at l),
-          ap₂ sum (ap₂ product (h .0) (h .9)) (ap₂ product (h .4) (h .5)) ∙ sym (k2 .crossed10 .ensures .at l),
-          ap₂ sum (ap₂ product (h .0) (h .10)) (ap₂ product (h .5) (h .5)) ∙ sym (k1 .crossed-square5 .ensures .at l),
-        ),
+        k0 .five .ensures .pivots l b (right-none (or-between (c .zeros .result) (k0 .five .result) l) z) (reduced (λ i j. m (i + j)))
+            (((ap₂ sum (ap₂ product (h .0) (h .1 .1 .0)) (ap₂ product (h .1 .0) (h .1 .0)) ∙ sym (k15 .crossed-square .ensures .at l))
+            next (ap₂ sum (ap₂ product (h .0) (h .1 .1 .1 .0)) (ap₂ product (h .1 .0) (h .1 .1 .0)) ∙ sym (k14 .crossed .ensures .at l))
+            next (ap₂ sum (ap₂ product (h .0) (h .1 .1 .1 .1 .0)) (ap₂ product (h .1 .0) (h .1 .1 .1 .0)) ∙ sym (k13 .crossed2 .ensures .at l))
+            next (ap₂ sum (ap₂ product (h .0) (h .1 .1 .1 .1 .1 .0)) (ap₂ product (h .1 .0) (h .1 .1 .1 .1 .0)) ∙ sym (k12 .crossed3 .ensures .at l))
+            next (ap₂ sum (ap₂ product (h .0) (h .1 .1 .1 .1 .1 .1 .0)) (ap₂ product (h .1 .0) (h .1 .1 .1 .1 .1 .0)) ∙ sym (k11 .crossed4 .ensures .at l)) next tt)
+            next ((ap₂ sum (ap₂ product (h .0) (h .1 .1 .1 .1 .0)) (ap₂ product (h .1 .1 .0) (h .1 .1 .0)) ∙ sym (k10 .crossed-square2 .ensures .at l))
+            next (ap₂ sum (ap₂ product (h .0) (h .1 .1 .1 .1 .1 .0)) (ap₂ product (h .1 .1 .0) (h .1 .1 .1 .0)) ∙ sym (k9 .crossed5 .ensures .at l))
+            next (ap₂ sum (ap₂ product (h .0) (h .1 .1 .1 .1 .1 .1 .0)) (ap₂ product (h .1 .1 .0) (h .1 .1 .1 .1 .0)) ∙ sym (k8 .crossed6 .ensures .at l))
+            next (ap₂ sum (ap₂ product (h .0) (h .1 .1 .1 .1 .1 .1 .1 .0)) (ap₂ product (h .1 .1 .0) (h .1 .1 .1 .1 .1 .0)) ∙ sym (k7 .crossed7 .ensures .at l)) next tt)
+            next ((ap₂ sum (ap₂ product (h .0) (h .1 .1 .1 .1 .1 .1 .0)) (ap₂ product (h .1 .1 .1 .0) (h .1 .1 .1 .0)) ∙ sym (k6 .crossed-square3 .ensures .at l))
+            next (ap₂ sum (ap₂ product (h .0) (h .1 .1 .1 .1 .1 .1 .1 .0)) (ap₂ product (h .1 .1 .1 .0) (h .1 .1 .1 .1 .0)) ∙ sym (k5 .crossed8 .ensures .at l))
+            next (ap₂ sum (ap₂ product (h .0) (h .1 .1 .1 .1 .1 .1 .1 .1 .0)) (ap₂ product (h .1 .1 .1 .0) (h .1 .1 .1 .1 .1 .0)) ∙ sym (k4 .crossed9 .ensures .at l)) next tt)
+            next ((ap₂ sum (ap₂ product (h .0) (h .1 .1 .1 .1 .1 .1 .1 .1 .0)) (ap₂ product (h .1 .1 .1 .1 .0) (h .1 .1 .1 .1 .0)) ∙ sym (k3 .crossed-square4 .ensures .at l))
+            next (ap₂ sum (ap₂ product (h .0) (h .1 .1 .1 .1 .1 .1 .1 .1 .1 .0)) (ap₂ product (h .1 .1 .1 .1 .0) (h .1 .1 .1 .1 .1 .0)) ∙ sym (k2 .crossed10 .ensures .at l)) next tt)
+            next ((ap₂ sum (ap₂ product (h .0) (h .1 .1 .1 .1 .1 .1 .1 .1 .1 .1 .0)) (ap₂ product (h .1 .1 .1 .1 .1 .0) (h .1 .1 .1 .1 .1 .0)) ∙ sym (k1 .crossed-square5 .ensures .at l)) next tt) next tt),
       );
     }
 

@@ -1,7 +1,7 @@
 -- `regular::sum_planes` meets its contract: the sum everywhere, and the words added to it as planes.
 use borrow.Author.Needs.{needs}
 use mathlib.Core.Path.{refl}
-use Rattle.regular.proofs.Turns.{sum-planes}
+use Rattle.regular.proofs.Loops.{sum-planes}
 use Rattle.regular.proofs.sum_planes.Statement.{statement}
 use Rattle.regular.proofs.sum_planes.Tie as tie
 

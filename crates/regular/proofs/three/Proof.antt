@@ -4,7 +4,7 @@ use mathlib.Core.Path.{sym, ap₂, _∙_}
 use Rattle.field.specs.Field.{sum, product}
 use Rattle.planes.proofs.Bits.{or-between}
 use Rattle.regular.specs.Pivots.{reduced, Pivots}
-use Rattle.regular.proofs.Turns.{left-none, right-none}
+use Rattle.regular.proofs.Loops.{left-none, right-none, _next_}
 use Rattle.regular.proofs.three.Statement.{statement}
 use Rattle.regular.proofs.three.Tie as tie
 
@@ -17,12 +17,11 @@ returns c =
     let k3 = k2 .before in
     record {
       pivots = λ l b z m h. (
-        (λ e. c .zeros .ensures .other l b (left-none (or-between (c .zeros .result) (k0 .two .result) l) z) (sym (h .0) ∙ e)),
-        k0 .two .ensures .pivots l b (right-none (or-between (c .zeros .result) (k0 .two .result) l) z) (reduced m) (
-          ap₂ sum (ap₂ product (h .0) (h .3)) (ap₂ product (h .1) (h .1)) ∙ sym (k3 .crossed-square .ensures .at l),
-          ap₂ sum (ap₂ product (h .0) (h .4)) (ap₂ product (h .1) (h .2)) ∙ sym (k2 .crossed .ensures .at l),
-          ap₂ sum (ap₂ product (h .0) (h .5)) (ap₂ product (h .2) (h .2)) ∙ sym (k1 .crossed-square2 .ensures .at l),
-        ),
+        (λ e. c .zeros .ensures .other l b (left-none (or-between (c .zeros .result) (k0 .two .result) l) z) (sym (h .0 .0) ∙ e)),
+        k0 .two .ensures .pivots l b (right-none (or-between (c .zeros .result) (k0 .two .result) l) z) (reduced m)
+            (((ap₂ sum (ap₂ product (h .0 .0) (h .1 .0 .0)) (ap₂ product (h .0 .1 .0) (h .0 .1 .0)) ∙ sym (k3 .crossed-square .ensures .at l))
+            next (ap₂ sum (ap₂ product (h .0 .0) (h .1 .0 .1 .0)) (ap₂ product (h .0 .1 .0) (h .0 .1 .1 .0)) ∙ sym (k2 .crossed .ensures .at l)) next tt)
+            next ((ap₂ sum (ap₂ product (h .0 .0) (h .1 .1 .0 .0)) (ap₂ product (h .0 .1 .1 .0) (h .0 .1 .1 .0)) ∙ sym (k1 .crossed-square2 .ensures .at l)) next tt) next tt),
       );
     }
 

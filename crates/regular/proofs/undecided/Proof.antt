@@ -1,7 +1,7 @@
 -- `regular::undecided` meets its contract: the matrix of the six windows of the sums has no pivot of 0 where the answer has a 0.
 use borrow.Author.Needs.{needs}
 use native.Mathlib.Omega.{arith}
-use Rattle.regular.proofs.Turns.{no-errors-where}
+use Rattle.regular.proofs.Loops.{no-errors-where}
 use Rattle.regular.proofs.undecided.Statement.{statement}
 use Rattle.regular.proofs.undecided.Tie as tie
 

@@ -2,7 +2,7 @@
 use borrow.Author.Needs.{needs}
 use Prim.Native.Nat.{_-_}
 use borrow.Author.Tests.{not-true, not-false}
-use Rattle.report.proofs.Turns.{ItemsTo, section-missing, items-none, items-all, items-cut, items-more}
+use Rattle.report.proofs.Loops.{ItemsTo, section-missing, items-none, items-all, items-cut, items-more}
 use Rattle.report.proofs.put_section.Statement.{statement}
 use Rattle.report.proofs.put_section.Tie as tie
 

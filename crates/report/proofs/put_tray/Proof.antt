@@ -4,7 +4,7 @@ use Prim.Native.Nat.{_-_, _<_}
 use lib.ListN.{length}
 use native.Mathlib.Omega.{arith}
 use mathlib.Core.Path.{refl}
-use Rattle.report.proofs.Turns.{SectionsTo, sections-none, tray-empty, tray-cut, sections-more, tray-more, tray-end}
+use Rattle.report.proofs.Loops.{SectionsTo, sections-none, tray-empty, tray-cut, sections-more, tray-more, tray-end}
 use Rattle.report.proofs.put_tray.Statement.{statement}
 use Rattle.report.proofs.put_tray.Tie as tie
 

@@ -5,7 +5,7 @@ use Prim.Native.Nat.{_-_}
 use Rattle.sums.specs.Held.{eleven}
 use Rattle.ring.specs.Marks.{MarksAtAll}
 use Rattle.ring.specs.Filter.{Decides}
-use Rattle.ring.proofs.Turns.{ListedTo, no-errors-here, listed-none, listed-one, listed-not, listed-all}
+use Rattle.ring.proofs.Loops.{ListedTo, no-errors-here, listed-none, listed-one, listed-not, listed-all}
 use Rattle.ring.proofs.list_starts.Statement.{statement}
 use Rattle.ring.proofs.list_starts.Tie as tie
 

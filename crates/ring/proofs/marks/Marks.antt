@@ -1,12 +1,12 @@
 -- The marks at a start: how far they lie from the marks, and their power sums from one start to the next.
 use mathlib.Core.Path.{_≡_, refl, sym, ap, _∙_, subst}
 use mathlib.Core.Logic.{⊎-elim}
-use mathlib.Core.List.{List, [], _∷_}
+use mathlib.Core.List.{List}
 use Prim.Native.Nat.{ℕ, zero, suc, _+_, _-_, _*_, _%_, _<_, _≤_}
 use native.Mathlib.Nat.{eq-or-lt-of-le}
 use native.Mathlib.Omega.{arith}
 use lib.Dec.{T, eqb, eqb→eq, leb, leb→le}
-use lib.ListN.{length, getD, replicate, set}
+use lib.ListN.{length, getD}
 use Rattle.numbers.proofs.Cases.{le-or-lt}
 use Rattle.numbers.proofs.Range.{both, both-left, both-right, each, each-at}
 use Rattle.field.specs.Field.{product, α, power}
@@ -16,20 +16,11 @@ use Rattle.code.specs.Inside.{PowerSums}
 use Rattle.code.proofs.Lines.{marks-long, marks-characters}
 use Rattle.code.proofs.Turning
 use Rattle.ring.specs.Ring.{placed}
-use Rattle.ring.specs.FalseStarts.{fourAway, fiveAway}
-use Rattle.ring.specs.Inside.{seen, marksAt, MarkSums, TurnedBack}
+use Rattle.ring.specs.FalseStarts.{with-at, markDistances}
+use Rattle.ring.specs.Inside.{seen, marksAt, MarkSums}
 use Rattle.ring.proofs.Placing.{kept, placed-forward, placed-backward, placed-again, turned-same, reversed-same, seen-forward, seen-returning}
 
 -- ---- how far the marks at a start lie from the marks
-
--- d at each of these starts
-unfoldable pub with-at : List ℕ → ℕ → List ℕ → List ℕ
-with-at [] d l = l
-with-at (k ∷ ks) d l = set (with-at ks d l) k d
-
--- 0 at start 0, 4 at six backward starts, 5 at six forward ones, and 6 at all others
-unfoldable pub markDistances : List ℕ
-markDistances = with-at fourAway 4 (with-at fiveAway 5 (0 ∷ replicate 125 6))
 
 distances-test : T (each 126 (λ k. eqb (distance (placed k marks) marks) (getD markDistances k 0)))
 unfolding placed turned reversed listed marks distance markDistances with-at
@@ -125,6 +116,11 @@ first-marks s p = subst (λ (w : List ℕ). PowerSums w s) (sym (marks-forward 0
 pub backward-begins : (k : ℕ) (s : List ℕ) → k ≡ 62 → PowerSums (reversed 0 marks) s → MarkSums (k + 1) s
 backward-begins k s e p =
     subst (λ (w : List ℕ). PowerSums w s) (sym (ap (λ (n : ℕ). marksAt (n + 1)) e ∙ marks-backward 63 (omega arith))) p
+
+-- each sum S_j times α^-j, which is α^(62 j): the sums of a word turned back by one character
+pub record TurnedBack (sums r : List ℕ) : Type 0 where
+  pub long : length r ≡ 11
+  pub entry : (i : ℕ) → i < 11 → getD r i 0 ≡ product (getD sums i 0) (power α ((58 + i) * 62))
 
 pub next-sums : (k : ℕ) (s r : List ℕ) → (k ≡ 62 → ⊥) → MarkSums k s → TurnedBack s r → MarkSums (k + 1) r
 next-sums k s r d p t =

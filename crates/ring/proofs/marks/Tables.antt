@@ -20,9 +20,9 @@ use Rattle.sums.specs.Held.{elevenAt}
 use Rattle.sums.proofs.Holding.{eleven-long, eleven-get}
 use Rattle.code.proofs.Words.{listed-long, listed-get}
 use Rattle.ring.specs.declared.marks.AllMarks.{AllMarks}
-use Rattle.ring.specs.Inside.{MarkSums, TurnedBack}
+use Rattle.ring.specs.Inside.{MarkSums}
 use Rattle.ring.specs.Marks.{MarksIn, marksOf, MarksAtAll}
-use Rattle.ring.proofs.marks.Marks.{next-sums}
+use Rattle.ring.proofs.marks.Marks.{TurnedBack, next-sums}
 
 -- the eleven sums at a start
 abbrev pub elevenOf : AllMarks → ℕ → Sums

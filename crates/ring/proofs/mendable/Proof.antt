@@ -1,6 +1,6 @@
 -- `ring::mendable` meets its contract: what the mender finds, or not, is told as it is.
 use borrow.Author.Needs.{needs}
-use Rattle.ring.proofs.Turns.{mend-told}
+use Rattle.ring.proofs.Loops.{mend-told}
 use Rattle.ring.proofs.mendable.Statement.{statement}
 use Rattle.ring.proofs.mendable.Tie as tie
 

@@ -1,7 +1,7 @@
 -- `ring::place_of` meets its contract: each return is one of the two directions.
 use native.Mathlib.Omega.{arith}
 use borrow.Author.Needs.{needs}
-use Rattle.ring.proofs.Turns.{place-forward, place-backward}
+use Rattle.ring.proofs.Loops.{place-forward, place-backward}
 use Rattle.ring.proofs.place_of.Statement.{statement}
 use Rattle.ring.proofs.place_of.Tie as tie
 

@@ -3,7 +3,7 @@ use borrow.Author.Needs.{needs}
 use mathlib.Core.Path.{_≡_}
 use Prim.Native.Nat.{_<_, _-_}
 use lib.ListN.{length}
-use Rattle.ring.proofs.Turns.{PlacedTo, placed-start, place-inside, placed-more, placed-all}
+use Rattle.ring.proofs.Loops.{PlacedTo, placed-start, place-inside, placed-more, placed-all}
 use Rattle.ring.proofs.word_at.Statement.{statement}
 use Rattle.ring.proofs.word_at.Tie as tie
 

@@ -15,11 +15,11 @@ use Rattle.numbers.proofs.Cases.{pos-of-not-zero}
 use Rattle.numbers.proofs.Xor.{xor-assoc, xor-undo}
 use Rattle.refusal.specs.Promise.{Tells}
 use Rattle.refusal.proofs.Laws.{tells-yes, tells-no}
-use Rattle.field.specs.Field.{sum, total}
-use Rattle.field.proofs.Totals.{total-none, total-front}
-use Rattle.eights.specs.Inside.{byte, Holds, eightFrom}
+use Rattle.numbers.specs.Total.{total}
+use Rattle.numbers.proofs.Totals.{total-none, total-front}
+use Rattle.eights.specs.Inside.{byte, HoldsBytes, eightFrom}
 use Rattle.eights.proofs.Laws.{none-byte}
-use Rattle.eights.proofs.Turns.{holds-at, eight-more}
+use Rattle.eights.proofs.Loops.{holds-at, eight-more}
 use Rattle.block.specs.Block.{Bytes, ones, Sevens}
 use Rattle.block.specs.Inside.{oddRows, summed, wanted, Counted, checked, withChecks, encoded}
 use Rattle.block.specs.Lanes.{count, CountedTo, OddBytes, SomeByte}
@@ -30,7 +30,7 @@ use Rattle.block.proofs.Lanes.{bytes-counted, count-same, count-most, c
 
 module _ (rows : List ℕ) (i odd row columns n odd′ row′ : ℕ) (t : CountedTo rows i odd row columns) (h : i < length rows) (c : n ≡ ones (getD rows i 0)) where
   columns-next : bitXor columns (getD rows i 0) ≡ bitXor wanted (total (i + 1) (λ a. getD rows a 0))
-  unfolding total sum
+  unfolding total
   columns-next =
       rw (add-one i, t .columns-wrong) (xor-assoc wanted (total i (λ a. getD rows a 0)) (getD rows i 0))
 
@@ -67,7 +67,7 @@ odd-rows-count (x ∷ xs) =
     ap (λ (n : ℕ). ones x % 2 + n) (odd-rows-count xs) ∙ sym (count-front (length xs) (λ a. ones (getD (x ∷ xs) a 0) % 2))
 
 summed-total : (rows : List ℕ) → summed rows ≡ total (length rows) (λ a. getD rows a 0)
-unfolding summed total sum
+unfolding summed total
 summed-total [] = refl
 summed-total (x ∷ xs) = ap (bitXor x) (summed-total xs) ∙ sym (total-front (length xs) (λ a. getD (x ∷ xs) a 0))
 
@@ -104,7 +104,7 @@ eights-none rows =
       };
     }
 
-module _ (rows : List ℕ) (i odd row z x p odd′ row′ : ℕ) (t : EightsTo rows i odd row z) (h : i + 8 ≤ length rows) (s : Holds (eightFrom rows i) x) (o : OddBytes x p) where
+module _ (rows : List ℕ) (i odd row z x p odd′ row′ : ℕ) (t : EightsTo rows i odd row z) (h : i + 8 ≤ length rows) (s : HoldsBytes (eightFrom rows i) x) (o : OddBytes x p) where
   odd-byte : (k : ℕ) → k < 8 → byte p k ≡ ones (getD rows (i + k) 0) % 2
   odd-byte k l = o .at k l ∙ ap (λ (r : ℕ). ones r % 2) (holds-at rows i x s k l)
 

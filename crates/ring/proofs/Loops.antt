@@ -19,9 +19,9 @@ use Rattle.code.proofs.Words.{same-word}
 use Rattle.code.proofs.Turning.{turned-get, reversed-get}
 use Rattle.mender.specs.declared.Mended.{Mended}
 use Rattle.mender.specs.Mender.{Mends, Word}
-use Rattle.ring.specs.Ring.{placed, Start, Those, end, listed, not-listed, ListOf}
+use Rattle.ring.specs.Ring.{placed, Start, Those, end, included, excluded, ListOf}
 use Rattle.ring.specs.Promises.{Lists}
-use Rattle.ring.specs.Inside.{Listable, Mendable, placeOf}
+use Rattle.ring.specs.Inside.{Listable, ErrorsFit, placeOf}
 use Rattle.ring.specs.declared.Undecided.{Undecided}
 use Rattle.ring.specs.Marks.{marksOf, MarksAtAll}
 use Rattle.ring.specs.Filter.{NoErrorsAt, Decides}
@@ -31,7 +31,7 @@ use Rattle.ring.proofs.Starts.{start-told}
 
 -- ---- whether errors have given sums
 
-pub mend-told : (s : List ℕ) (t : ℕ) (m : Mended) → Mends s 11 t m → Tells (Mendable s t) (m .found)
+pub mend-told : (s : List ℕ) (t : ℕ) (m : Mended) → Mends s 11 t m → Tells (ErrorsFit s t) (m .found)
 mend-told s t m p = record { holds = λ e. (m .word, p .fits e); fails = λ e x. p .none e (x .0) (x .1) }
 
 -- ---- the word at a start
@@ -113,9 +113,9 @@ listed-none ring t old sums asked us =
     }
 
 module _ (ring : List ℕ) (t : ℕ) (old out sums : List ℕ) (n k : ℕ) (firsts lasts : List ℕ) (b : Bool) (d : List ℕ) (n′ : ℕ) (out′ : List ℕ) (s : ListedTo ring t old out sums n k) (h : k < 126)
-    (ms : MarksAtAll (record { firsts = firsts; lasts = lasts })) (ed : d ≡ added sums (eleven (record { first = getD firsts k 0; last = getD lasts k 0 }))) (tells : Tells (Mendable d t) b) where
+    (ms : MarksAtAll (record { firsts = firsts; lasts = lasts })) (ed : d ≡ added sums (eleven (record { first = getD firsts k 0; last = getD lasts k 0 }))) (tells : Tells (ErrorsFit d t) b) where
   told : Tells (Start t ring k) b
-  told = start-told ring sums (marksOf (record { firsts = firsts; lasts = lasts }) k) k t (word-of (s .asked)) (s .asked .small) h (s .ring-sums) (ms .at k h) b (subst (λ (x : List ℕ). Tells (Mendable x t) b) ed tells)
+  told = start-told ring sums (marksOf (record { firsts = firsts; lasts = lasts }) k) k t (word-of (s .asked)) (s .asked .small) h (s .ring-sums) (ms .at k h) b (subst (λ (x : List ℕ). Tells (ErrorsFit x t) b) ed tells)
 
   pub listed-one : b ≡ true → n′ ≡ n + 1 → out′ ≡ set out n k → ListedTo ring t old out′ sums n′ (k + 1)
   listed-one e en eo =
@@ -134,7 +134,7 @@ module _ (ring : List ℕ) (t : ℕ) (old out sums : List ℕ) (n k : ℕ) (firs
         starts = s .starts ++ (k ∷ []);
         count = rw (length-append (s .starts) (k ∷ [])) (omega arith);
         output = rw en (eo ∙ x);
-        whole = λ more r. rw append-assoc (s .whole (k ∷ more) (moved {n = suc (126 - (k + 1))} (omega arith) refl (listed (told .holds e) (moved refl (add-one k) r))));
+        whole = λ more r. rw append-assoc (s .whole (k ∷ more) (moved {n = suc (126 - (k + 1))} (omega arith) refl (included (told .holds e) (moved refl (add-one k) r))));
       }
 
   pub listed-not : b ≡ false → n′ ≡ n → out′ ≡ out → ListedTo ring t old out′ sums n′ (k + 1)
@@ -148,7 +148,7 @@ module _ (ring : List ℕ) (t : ℕ) (old out sums : List ℕ) (n k : ℕ) (firs
         starts = s .starts;
         count = en ∙ s .count;
         output = rw en (eo ∙ s .output);
-        whole = λ more r. s .whole more (moved {n = suc (126 - (k + 1))} (omega arith) refl (not-listed (told .fails e) (moved refl (add-one k) r)));
+        whole = λ more r. s .whole more (moved {n = suc (126 - (k + 1))} (omega arith) refl (excluded (told .fails e) (moved refl (add-one k) r)));
       }
 
 -- where the filter has a 0 at this start, no errors have its sums

@@ -7,7 +7,8 @@ use native.Mathlib.Omega.{arith}
 use lib.Bits.{bitXor, bitAnd, and-mask, and-high, and-comm, and-le-r, and-zero-l}
 use Rattle.numbers.proofs.Cases.{bit-cases}
 use Rattle.numbers.proofs.Xor.{xor-assoc}
-use Rattle.field.specs.Field.{sum, timesX, shifted, product, total}
+use Rattle.numbers.specs.Total.{total}
+use Rattle.field.specs.Field.{sum, timesX, shifted, product}
 use Rattle.field.proofs.Laws
 use Rattle.lanes.specs.Lanes.{pack, lane}
 use Rattle.lanes.proofs.Laws.{lane-lt, lane-zero, lane-suc, pack-same, pack-lt, low-pack, lane-pack, pack-lanes, xor-pack, and-lanes, times-pack}
@@ -208,9 +209,6 @@ module _ (p q a b s i a′ : ℕ) (h : i < 6) (l : ProductsTo p q a b s i) (ea :
 pub products-all : (p q a b s i : ℕ) → 6 ≤ i → ProductsTo p q a b s i → s ≡ pack 10 (λ k. product (lane p k) (lane q k))
 products-all p q a b s i h l = lanes-all p (l .B) (lane q) a s i h (l .lanes-to)
 
-pub products-most : (p q a b s i : ℕ) → ProductsTo p q a b s i → i ≤ 6
-products-most p q a b s i l = l .lanes-to .most
-
 -- ---- the sum of the lanes
 
 -- i lanes are added, and q holds those after them
@@ -224,7 +222,7 @@ unfolding total
 summed-none p = record { most = omega arith; after = λ k. ap (lane p) (sym (zero-add k)); done = refl }
 
 pub summed-again : (p q s i : ℕ) → i < 10 → SummedTo p q s i → SummedTo p (q / 64) (bitXor s (q % 64)) (i + 1)
-unfolding total sum
+unfolding total
 summed-again p q s i h l =
     record {
       most = omega arith;

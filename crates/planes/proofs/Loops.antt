@@ -3,7 +3,7 @@ use mathlib.Core.Path.{_≡_, refl, sym, ap, ap₂, _∙_}
 use mathlib.Core.Bool.{Bool}
 use mathlib.Core.List.{List, [], _∷_}
 use Prim.Native.Nat.{ℕ, zero, suc, _+_, _-_, _*_, _/_, _%_, _^_, _<_, _≤_}
-use native.Mathlib.Nat.{mod-eq-of-lt, zero-mul, one-mul}
+use native.Mathlib.Nat.{mod-eq-of-lt}
 use native.Mathlib.Omega.{arith}
 use lib.Bits.{bitAnd, bitOr, bitXor, xor-lt}
 use lib.Dec.{T, eqb, eqb→eq}
@@ -16,7 +16,7 @@ use Rattle.field.proofs.Laws
 use Rattle.polynomial.specs.Polynomial.{polyAt}
 use Rattle.planes.specs.declared.Planes.{Planes}
 use Rattle.planes.specs.Roots.{RootsOf}
-use Rattle.planes.specs.Slices.{bitAt, ofBits, elementAt, Spread, Everywhere, Doubled, Added, OnlyAt, NextBit, PlaceMultiplied, ZerosOf}
+use Rattle.planes.specs.Slices.{bitAt, ofBits, elementAt, BitSpread, Everywhere, Doubled, Added, OnlyAt, NextBit, PlaceMultiplied, ZerosOf}
 use Rattle.planes.specs.Crossed.{Crossed, Squared}
 use Rattle.planes.proofs.Bits.{xor-bit, and-bit, or-between, Between, low-bit, of-same, of-xor, of-lt, of-scaled, of-timesX}
 
@@ -39,12 +39,12 @@ zeros-test = tt
 zeros-bit : (l : ℕ) → l < 63 → bitAt 0 l ≡ 0
 zeros-bit l h = eqb→eq (bitAt 0 l) 0 (each-at 63 (λ k. eqb (bitAt 0 k) 0) zeros-test l h)
 
-pub spread-bit : (c : ℕ) → Spread c (c % 2 * 9223372036854775807)
+pub spread-bit : (c : ℕ) → BitSpread c (c % 2 * 9223372036854775807)
 spread-bit c =
     record { bit = λ l h. bit-cases (λ (x : ℕ). bitAt (x * 9223372036854775807) l ≡ x) (zeros-bit l h) (ones-bit l h) c }
 
-pub everywhere-bits : (c : ℕ) (r : Planes) → Spread c (r .b0) → Spread (c / 2) (r .b1) → Spread (c / 4) (r .b2) → Spread (c / 8) (r .b3)
-    → Spread (c / 16) (r .b4) → Spread (c / 32) (r .b5) → Everywhere c r
+pub everywhere-bits : (c : ℕ) (r : Planes) → BitSpread c (r .b0) → BitSpread (c / 2) (r .b1) → BitSpread (c / 4) (r .b2) → BitSpread (c / 8) (r .b3)
+    → BitSpread (c / 16) (r .b4) → BitSpread (c / 32) (r .b5) → Everywhere c r
 unfolding elementAt
 everywhere-bits c r h0 h1 h2 h3 h4 h5 =
     record {
@@ -118,21 +118,6 @@ next-bit s v t o r k d h a = record { at = λ l. a .at l ∙ ap₂ sum (d .at l)
 
 -- ---- the product with the place, from its highest bit down
 
-doubled-zero : timesX 0 ≡ 0
-unfolding timesX sum
-doubled-zero = refl
-
-bit-doubled : (y u : ℕ) → y % 2 * timesX u ≡ timesX (y % 2 * u)
-bit-doubled y u =
-    bit-cases (λ (x : ℕ). x * timesX u ≡ timesX (x * u)) (simp zero-mul (sym doubled-zero)) (simp one-mul) y
-
--- doubling first or last is the same
-shifted-doubled : (n u y : ℕ) → shifted n (timesX u) y ≡ timesX (shifted n u y)
-unfolding shifted
-shifted-doubled zero u y = sym doubled-zero
-shifted-doubled (suc n) u y =
-    ap₂ sum (bit-doubled y u) (shifted-doubled n (timesX u) (y / 2)) ∙ sym (Laws.timesX-sum (y % 2 * u) (shifted n (timesX u) (y / 2)))
-
 -- the highest bit alone
 first-bit : (u y s : ℕ) → s ≡ y % 2 * u → s ≡ shifted 1 u (y % 2)
 unfolding shifted
@@ -146,7 +131,7 @@ one-bit-more n u h y s r q e =
     let low : y % 2 ≡ (h * 2 + y % 2) % 2 = omega arith in
     let up : h ≡ (h * 2 + y % 2) / 2 = omega arith in
     e ∙ Laws.sum-comm (timesX s) (y % 2 * u)
-    ∙ ap₂ (λ (x t : ℕ). sum (x * u) t) low (ap timesX q ∙ sym (shifted-doubled n u h) ∙ ap (shifted n (timesX u)) up)
+    ∙ ap₂ (λ (x t : ℕ). sum (x * u) t) low (ap timesX q ∙ sym (Laws.shifted-timesX n u h) ∙ ap (shifted n (timesX u)) up)
 
 -- the product with six words, as planes
 bits-multiplied : (a b c d e f : ℕ) (v s5 s4 s3 s2 s1 r : Planes) → OnlyAt f v s5 → NextBit s5 v e s4 → NextBit s4 v d s3

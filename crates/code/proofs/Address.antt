@@ -3,16 +3,13 @@ use mathlib.Core.Path.{_≡_, sym, ap, ap₂, _∙_}
 use mathlib.Core.List.{List}
 use Prim.Native.Nat.{ℕ, _+_, _-_, _*_, _%_, _<_}
 use native.Mathlib.Omega.{arith}
-use lib.ListN.{getD, set}
+use lib.ListN.{getD}
 use Rattle.field.specs.Field.{sum, product, α, power, Log, Quotient}
 use Rattle.field.proofs.Laws
 use Rattle.field.proofs.Theorems.{one-log}
 use Rattle.code.specs.Word.{powerSum, Clean}
+use Rattle.code.specs.Wrong.{wrongAt}
 use Rattle.code.proofs.Sums.{powerSum-mod, powerSum-set}
-
--- v added at address a
-abbrev pub wrongAt : List ℕ → ℕ → ℕ → List ℕ
-wrongAt w a v = set w a (sum (getD w a 0) v)
 
 module _ (w : List ℕ) (a v : ℕ) (c : Clean w) (ha : a < 63) (hv : v < 64) where
   wrong-sum : (j : ℕ) → powerSum j w ≡ 0 → powerSum j (wrongAt w a v) ≡ product v (power α (j * (62 - a) % 63))

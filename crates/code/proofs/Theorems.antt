@@ -14,6 +14,7 @@ use Rattle.field.specs.Field.{sum, product, α, power, Log, Quotient}
 use Rattle.field.proofs.Laws
 use Rattle.polynomial.specs.Sums.{weight}
 use Rattle.code.specs.Word.{powerSum, Clean, added, marks, Line, text, number, distance, nowhere, firstChanged, lastChanged, turned, reversed}
+use Rattle.code.specs.Wrong.{wrongAt, WrongCharacter}
 use Rattle.code.specs.Promises.{TellsLine}
 use Rattle.code.specs.Inside.{PowerSums}
 use Rattle.code.proofs.Sums.{powerSum-lt}
@@ -22,20 +23,11 @@ use Rattle.code.proofs.Changes
 use Rattle.code.proofs.Words
 use Rattle.code.proofs.Lines.{clean-added, marks-line, line-long, line-characters}
 use Rattle.code.proofs.Apart
-use Rattle.code.proofs.Address.{wrongAt, zeroth-sum, first-sum, sums-ratio, address-by-logs}
+use Rattle.code.proofs.Address.{zeroth-sum, first-sum, sums-ratio, address-by-logs}
 use Rattle.code.proofs.Turning
 use Rattle.code.proofs.Adding
 
--- v, which is not 0, added at address a of a clean word: S_0 is v and S_1 is v α^(62 - a),
--- so the address of the one wrong character is 62 - (log S_1 - log S_0), modulo 63
-pub record WrongCharacter (x : List ℕ) (a v : ℕ) : Type 0 where
-  pub zeroth : powerSum 0 x ≡ v
-  pub first : powerSum 1 x ≡ product v (power α (62 - a))
-  pub ratio : Quotient (powerSum 1 x) (powerSum 0 x) (power α (62 - a))
-  pub first-log : (m : ℕ) × Log (powerSum 1 x) m
-  pub zeroth-log : (n : ℕ) × Log (powerSum 0 x) n
-  pub address : (m n : ℕ) → Log (powerSum 1 x) m → Log (powerSum 0 x) n → a ≡ (62 + (63 + n - m)) % 63
-
+-- one wrong character tells its value and its address
 pub one-wrong-character : (w : List ℕ) (a v : ℕ) → Clean w → a < 63 → 0 < v → v < 64 → WrongCharacter (wrongAt w a v) a v
 one-wrong-character w a v c ha p hv =
     let x : List ℕ = wrongAt w a v in

@@ -97,7 +97,7 @@ fn few(bytes: &[u8]) -> u64
 }
 
 // The byte at an address, 0 past the end.
-fn byte_at(bytes: &[u8], a: usize) -> u8
+pub fn byte_at(bytes: &[u8], a: usize) -> u8
     ensures { λ r. ⌜ r ≡ getD (now (bytes .entry)) a 0 ⌝ }
 {
     if a < bytes.len() {

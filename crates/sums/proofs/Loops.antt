@@ -6,7 +6,7 @@ use Prim.Native.Nat.{ℕ, zero, suc, _+_, _-_, _*_, _/_, _%_, _^_, _<_, _≤_}
 use native.Mathlib.Nat.{add-zero, add-suc, suc-add, zero-add, pow-suc, le-trans, le-of-eq}
 use native.Mathlib.Omega.{arith}
 use borrow.Author.Count.{below-none, below-more}
-use lib.ListN.{length, getD, set, length-set, List·getD-eq-default}
+use lib.ListN.{length, getD, set, length-set}
 use lib.Seq.{getD-set-same, getD-set-other}
 use Rattle.numbers.proofs.Cases.{le-or-lt, same-or-not}
 use Rattle.lanes.specs.Lanes.{pack, lane}
@@ -22,9 +22,6 @@ use Rattle.sums.specs.Packed.{Packed, Filled}
 use Rattle.sums.proofs.Holding.{eleven-is}
 
 -- ---- a word filled up to 63 characters
-
-pub past-end : (w : List ℕ) (a : ℕ) → length w ≤ a → 0 ≡ getD w a 0
-past-end w a h = sym (List·getD-eq-default w 0 h)
 
 pub record FilledTo (w v : List ℕ) (a : ℕ) : Type 0 where
   pub most : a ≤ 63

@@ -1,6 +1,5 @@
 // The eleven power sums of a word by tables, several to a number, and the form that holds them packed.
 ghost use mathlib.Core.Path.{_≡_};
-ghost use lib.ListN.{getD};
 ghost use Rattle.code.specs.Word.{added};
 ghost use Rattle.code.specs.Inside.{PowerSums};
 ghost use Rattle.sums.specs.Held.{eleven, lowered};
@@ -77,20 +76,10 @@ fn filled(word: &[u8]) -> [u8; 63]
         return v;
     }
     while a < 63 {
-        v[a] = character(word, a);
+        v[a] = eights::byte_at(word, a);
         a += 1;
     }
     v
-}
-
-// The character at an address, 0 past the end.
-fn character(word: &[u8], a: usize) -> u8
-    ensures { λ r. ⌜ r ≡ getD (now (word .entry)) a 0 ⌝ }
-{
-    if a < word.len() {
-        return word[a];
-    }
-    0
 }
 
 // Eleven sums packed: of each the low six bits count.

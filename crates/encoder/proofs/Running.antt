@@ -11,7 +11,7 @@ use Rattle.code.specs.Word.{Characters}
 use Rattle.encoder.specs.declared.Register.{Register}
 use Rattle.encoder.specs.Register.{empty, stepped, next, checksOf}
 use Rattle.encoder.specs.Promises.{stepTests, Steps, checkTests, Checks}
-use Rattle.encoder.specs.Runs.{Through, none, more, Holds}
+use Rattle.encoder.specs.Runs.{Through, none, more, HoldsAfter}
 use Rattle.encoder.proofs.Division.{lower}
 use Rattle.encoder.proofs.Stepping.{stepped-long, stepped-get, remainder-none, remainder-more}
 use Rattle.encoder.proofs.Encoding.{characters-append, characters-remainder}
@@ -38,13 +38,13 @@ ask-on r h s = checks-given r (checksOf (r .held)) (omega arith then omega arith
 
 -- ---- runs
 
-pub holds-none : Holds empty []
+pub holds-none : HoldsAfter empty []
 holds-none = record { held-is = sym remainder-none; count-is = refl }
 
-held-characters : (r : Register) (cs : List ℕ) → Holds r cs → Characters cs → Characters (r .held)
+held-characters : (r : Register) (cs : List ℕ) → HoldsAfter r cs → Characters cs → Characters (r .held)
 held-characters r cs h c = subst Characters (sym (h .held-is)) (characters-remainder cs c)
 
-holds-next : (r : Register) (cs : List ℕ) (c : ℕ) → Holds r cs → Holds (next r c) (cs ++ c ∷ [])
+holds-next : (r : Register) (cs : List ℕ) (c : ℕ) → HoldsAfter r cs → HoldsAfter (next r c) (cs ++ c ∷ [])
 holds-next r cs c h =
     record {
       held-is = ap (λ (l : List ℕ). stepped l c) (h .held-is) ∙ sym (remainder-more cs c);
@@ -56,17 +56,17 @@ one-character c h zero = h
 one-character c h (suc a) = omega arith
 
 -- from a register that holds ds, steps through cs leave one that holds both
-pub run-holds : (cs ds : List ℕ) (q r : Register) → length ds + length cs ≤ 52 → Characters ds → Characters cs → Holds q ds → Through q cs r → Holds r (ds ++ cs)
-run-holds [] ds q r l hd hc h none = subst (Holds q) (sym (append-nil ds)) h
+pub run-holds : (cs ds : List ℕ) (q r : Register) → length ds + length cs ≤ 52 → Characters ds → Characters cs → HoldsAfter q ds → Through q cs r → HoldsAfter r (ds ++ cs)
+run-holds [] ds q r l hd hc h none = subst (HoldsAfter q) (sym (append-nil ds)) h
 run-holds (c ∷ cs) ds q r l hd hc h (more {q = p} numbers s run) =
     let below : q .count < 52 = omega (arith, h .count-is) in
     let same : p ≡ next q c = one-stepping q c numbers (0 ∷ []) p (next q c) s (step-on q c below (held-characters q ds h hd) (omega (arith, hc 0))) .1 in
-    let known : Holds p (ds ++ c ∷ []) = subst (λ (x : Register). Holds x (ds ++ c ∷ [])) (sym same) (holds-next q ds c h) in
-    subst (Holds r) (append-assoc ds (c ∷ []) cs)
+    let known : HoldsAfter p (ds ++ c ∷ []) = subst (λ (x : Register). HoldsAfter x (ds ++ c ∷ [])) (sym same) (holds-next q ds c h) in
+    subst (HoldsAfter r) (append-assoc ds (c ∷ []) cs)
     (run-holds cs (ds ++ c ∷ []) p r (omega (arith, length-append ds (c ∷ []))) (characters-append ds (c ∷ []) hd (one-character c (hc 0))) (λ a. hc (suc a)) known run)
 
 -- and there is such a run
-pub a-run : (cs ds : List ℕ) (q : Register) → length ds + length cs ≤ 52 → Characters ds → Characters cs → Holds q ds → (r : Register) × Through q cs r
+pub a-run : (cs ds : List ℕ) (q : Register) → length ds + length cs ≤ 52 → Characters ds → Characters cs → HoldsAfter q ds → (r : Register) × Through q cs r
 a-run [] ds q l hd hc h = (q, none)
 a-run (c ∷ cs) ds q l hd hc h =
     let below : q .count < 52 = omega (arith, h .count-is) in

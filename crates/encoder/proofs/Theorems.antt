@@ -22,7 +22,7 @@ use Rattle.encoder.specs.declared.Checked.{Checked}
 use Rattle.encoder.specs.Division.{plus, scaled, generator, remainder, timesGenerator, GeneratorDivides, Remains}
 use Rattle.encoder.specs.Register.{empty, next, checksOf}
 use Rattle.encoder.specs.Promises.{encodingNumbers, encodingTests, LineWith, Encodes, stepNumbers, Steps, answerNumber, checkNumbers, Checks}
-use Rattle.encoder.specs.Runs.{Through, Holds}
+use Rattle.encoder.specs.Runs.{Through, HoldsAfter}
 use Rattle.encoder.specs.Inside.{information}
 use Rattle.encoder.proofs.Division.{lower, generator-is, highest-goes, remainder-is, remainder-long}
 use Rattle.encoder.proofs.Quotients.{quotients, apart}
@@ -75,7 +75,7 @@ one-line t n l m p q = one-line-of-text l m (p .line) (q .line) (p .its-text ∙
 
 -- after n characters, n from 0 to 52, the register holds the remainder of x^11 times their polynomial, and their count:
 -- every run of steps that the promise allows, from the empty register, leaves it so
-pub after-characters : (cs : List ℕ) → length cs ≤ 52 → Characters cs → (r : Register) → Through empty cs r → Holds r cs
+pub after-characters : (cs : List ℕ) → length cs ≤ 52 → Characters cs → (r : Register) → Through empty cs r → HoldsAfter r cs
 after-characters cs l h r run = run-holds cs [] empty r (omega (arith, zero-add (length cs))) (λ a. omega arith) h holds-none run
 
 -- and there is a run: no character is refused
@@ -99,7 +99,7 @@ two-ways t n old l r numbers e run asked =
     let ok = passed (encodingTests t n (length old)) 0 (e .0) refl in
     let long : length (information t n) ≡ 52 = information-long t n (ok .0) in
     let chars : Characters (information t n) = information-characters t n (ok .1 .1 .0) (ok .1 .1 .1 .0) in
-    let h : Holds r (information t n) = after-characters (information t n) (omega arith) chars r run in
+    let h : HoldsAfter r (information t n) = after-characters (information t n) (omega arith) chars r run in
     let held : Characters (r .held) = subst Characters (sym (h .held-is)) (characters-remainder (information t n) chars) in
     let same : l ≡ encoded t n = one-line t n l (encoded t n) (e .1 .1) (encoded-line t n (ok .0) (ok .1 .1 .0) (ok .1 .1 .1 .0)) in
     one-asking r numbers (0 ∷ checksOf (r .held)) asked (ask-on r (h .count-is ∙ long) held)

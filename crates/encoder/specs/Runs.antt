@@ -13,6 +13,6 @@ pub data Through : Register → List ℕ → Register → Type 0 where
   more : {r q s : Register} {c : ℕ} {cs : List ℕ} (numbers : List ℕ) → Steps r c numbers q → Through q cs s → Through r (c ∷ cs) s
 
 -- the register holds the remainder of x^11 times these characters' polynomial, and their count
-pub record Holds (r : Register) (cs : List ℕ) : Type 0 where
+pub record HoldsAfter (r : Register) (cs : List ℕ) : Type 0 where
   pub held-is : r .held ≡ remainder cs
   pub count-is : r .count ≡ length cs

@@ -1,5 +1,5 @@
 -- The ways out of reading a line, a test at a time, in the paper's order.
-use mathlib.Core.Path.{_≡_, sym, ap, ap₂, _∙_, subst}
+use mathlib.Core.Path.{_≡_, refl, sym, ap, ap₂, _∙_, subst}
 use mathlib.Core.Bool.{true, false}
 use mathlib.Core.List.{List, [], _∷_, _++_, append-nil}
 use Prim.Native.Nat.{ℕ, min, _+_, _*_, _%_, _<_, _≤_}
@@ -22,7 +22,7 @@ use Rattle.mender.proofs.Finding.{nearest-as}
 use Rattle.line.specs.declared.Wanted.{Wanted}
 use Rattle.line.specs.declared.Wanted.the-variants as W
 use Rattle.line.specs.Promises.{Within, Readable, Possible, Carries, Fitting, readingTests, told, ReadAs, Reads}
-use Rattle.line.specs.Inside.{IsWanted}
+use Rattle.line.specs.Inside.{IsWanted, Writes}
 
 -- ---- the nearest line: a line is a word with the power sums of the marks
 
@@ -119,8 +119,21 @@ module _ (w : List ℕ) (t : ℕ) (m : Mended) (nearest : Nearest Line w (min t 
 
 -- ---- the output
 
-pub put-whole : (line old new : List ℕ) → length line ≡ 63 → length old ≡ 63 → new ≡ take (length line) line ++ drop (length line) old → new ≡ line
+put-whole : (line old new : List ℕ) → length line ≡ 63 → length old ≡ 63 → new ≡ take (length line) line ++ drop (length line) old → new ≡ line
 put-whole line old new l room copied =
     copied
     ∙ ap₂ (λ (x y : List ℕ). x ++ y) (take-all (length line) line (omega arith)) (ap (λ (k : ℕ). drop k old) (l ∙ sym room) ∙ drop-length old)
     ∙ append-nil line
+
+pub put-over : (line old new : List ℕ) → length line ≡ 63 → length old ≡ 63 → new ≡ take (length line) line ++ drop (length line) old → Writes line old new
+put-over line old new l room copied = record { over = λ _. put-whole line old new l room copied; beside = λ d. absurd (d room) }
+
+pub left-alone : (line old : List ℕ) → (length old ≡ 63 → ⊥) → Writes line old old
+left-alone line old d = record { over = λ e. absurd (d e); beside = λ _. refl }
+
+-- an output of 63 bytes holds the line
+pub written : {line old new : List ℕ} → Writes line old new → length old ≡ 63 → new ≡ line
+written w room = w .over room
+
+pub written-long : {line old new : List ℕ} → Writes line old new → length line ≡ 63 → length old ≡ 63 → length new ≡ length old
+written-long w l room = ap length (w .over room) ∙ l ∙ sym room

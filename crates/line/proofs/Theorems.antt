@@ -1,9 +1,11 @@
 -- The theorems of line reading: it yields the line within the radius, refuses for want of one exactly when there is none, tells where the word was changed, and allows one result.
 use mathlib.Core.Path.{_≡_, refl, sym, ap, ap₂, _∙_, subst}
+use mathlib.Core.Logic.{⊎-elim}
 use mathlib.Core.List.{List, [], _∷_}
 use Prim.Native.Nat.{ℕ, min, _≤_}
 use native.Mathlib.Omega.{arith}
 use lib.ListN.{length, getD}
+use Rattle.numbers.proofs.Cases.{same-or-not}
 use Rattle.refusal.proofs.Laws.{one-refusal, refusal-positive, passed}
 use Rattle.refusal.proofs.Ladder.{_then_, denied}
 use Rattle.refusal.proofs.Theorems.{one-result, same-numbers}
@@ -18,7 +20,7 @@ use Rattle.line.specs.declared.Wanted.the-variants as W
 use Rattle.line.specs.declared.LineReading.{LineReading}
 use Rattle.line.specs.declared.LineReading.the-variants as R
 use Rattle.line.specs.Promises.{readingNumbers, Within, Readable, readingTests, told, ReadAs, Reads}
-use Rattle.line.specs.Inside.{NearestLine}
+use Rattle.line.specs.Inside.{NearestLine, Writes}
 use Rattle.line.proofs.Reading.{refused, read}
 
 -- if a line lies within t it is the only one
@@ -122,3 +124,7 @@ module _ (w : List ℕ) (t : ℕ) (wanted : Wanted) (old : List ℕ) (n d f g : 
 pub one-nearest-line : (w : List ℕ) (t : ℕ) (m n : Mended) → NearestLine w t m → NearestLine w t n → m ≡ n
 one-nearest-line w t m n =
     one-nearest Line w (min t 5) m n (λ y u v f g a b. one-line-near w u v (min t 5) (y .long) (omega arith) f g a b)
+
+-- and any two results of writing a line
+pub one-written : (line old x y : List ℕ) → Writes line old x → Writes line old y → x ≡ y
+one-written line old x y p q = ⊎-elim (λ e. p .over e ∙ sym (q .over e)) (λ d. p .beside d ∙ sym (q .beside d)) (same-or-not (length old) 63)

@@ -1,7 +1,8 @@
--- What the inner functions of line reading promise: the nearest line, to rings too, and the test of the number.
+-- What the inner functions of line reading promise, to rings too: the nearest line, the test of the number, and what is written.
 use mathlib.Core.Path.{_≡_}
 use mathlib.Core.List.{List}
 use Prim.Native.Nat.{ℕ, min}
+use lib.ListN.{length}
 use Rattle.code.specs.Word.{Line}
 use Rattle.mender.specs.declared.Mended.{Mended}
 use Rattle.mender.specs.Mender.{Nearest}
@@ -16,3 +17,8 @@ NearestLine w t m = Nearest Line w (min t 5) m
 abbrev pub IsWanted : Wanted → ℕ → Type 0
 IsWanted W.Any n = Unit {0}
 IsWanted (W.Number m) n = n ≡ m
+
+-- a line written over an output of 63 bytes; another output is as it was
+pub record Writes (line old new : List ℕ) : Type 0 where
+  pub over : length old ≡ 63 → new ≡ line
+  pub beside : (length old ≡ 63 → ⊥) → new ≡ old

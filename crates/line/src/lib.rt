@@ -1,11 +1,11 @@
 // Reading a line: the line within the radius, or a refusal exactly when there is none.
 ghost use mathlib.Core.Path.{_≡_};
 ghost use Prim.Native.Nat.{_+_, _*_, _%_};
-ghost use lib.ListN.{length, getD};
+ghost use lib.ListN.{getD};
 ghost use Rattle.refusal.specs.Promise.{Tells};
 ghost use Rattle.code.specs.Word.{number};
 ghost use Rattle.line.specs.Promises.{readingNumbers, Possible, Reads};
-ghost use Rattle.line.specs.Inside.{NearestLine, IsWanted};
+ghost use Rattle.line.specs.Inside.{NearestLine, IsWanted, Writes};
 use mender::Mended;
 use refusal::Refusal;
 
@@ -77,11 +77,13 @@ pub fn number_of(line: [u8; 63]) -> u16
     (line[50] % 64) as u16 * 64 + (line[51] % 64) as u16
 }
 
-// Writes a line over an output of its length.
-fn put(line: [u8; 63], output: &mut [u8])
-    requires { ⌜ length (now output) ≡ 63 ⌝ }
-    ensures { λ _. ⌜ now (output .exit) ≡ line ⌝ }
+// Writes a line over an output of its length, and over no other.
+pub fn put(line: [u8; 63], output: &mut [u8])
+    ensures { λ _. ⌜ Writes line (now (output .entry)) (now (output .exit)) ⌝ }
 {
+    if output.len() != 63 {
+        return;
+    }
     bytes::copy(&line, output);
 }
 

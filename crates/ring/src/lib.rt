@@ -86,7 +86,7 @@ pub fn read_ring(ring: &[u8], radius: u8, output: &mut [u8]) -> RingReading
     let word = word_at(ring, start);
     let found = line::nearest_line(&word, radius);
     let line = found.word;
-    put(line, output);
+    line::put(line, output);
     RingReading::Line {
         start: start,
         number: line::number_of(line),
@@ -207,12 +207,4 @@ fn place_of(start: usize, a: usize) -> usize
         return (start + a) % 63;
     }
     (start - a) % 63
-}
-
-// Writes a line over an output of its length.
-fn put(line: [u8; 63], output: &mut [u8])
-    requires { ⌜ length (now output) ≡ 63 ⌝ }
-    ensures { λ _. ⌜ now (output .exit) ≡ line ⌝ }
-{
-    bytes::copy(&line, output);
 }

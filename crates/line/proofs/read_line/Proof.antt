@@ -1,7 +1,7 @@
 -- `line::read_line` meets its contract: each return is one way in which reading ends, in the order of the refusals.
 use borrow.Author.Needs.{needs}
 use Rattle.refusal.proofs.Ladder.{verdicts}
-use Rattle.line.proofs.Reading.{refused, read, none, readable, other, fitting, the-line}
+use Rattle.line.proofs.Reading.{refused, read, none, readable, other, fitting, the-line, written, written-long}
 use Rattle.line.proofs.read_line.Statement.{statement}
 use Rattle.line.proofs.read_line.Tie as tie
 
@@ -22,5 +22,5 @@ read-line-spec =
     (λ c κs. search needs)
     (λ c. refused _ _ _ _ 6 (search (readable, other, verdicts) depth 9))
     (λ c κs. search needs)
-    (λ c. search needs)
-    (λ c. read _ _ _ _ _ _ (search (readable, fitting, verdicts) depth 12) (search (the-line, verdicts))))
+    (λ c. search (written-long, needs))
+    (λ c. read _ _ _ _ _ _ (search (readable, fitting, verdicts) depth 12) (search (the-line, written, verdicts))))

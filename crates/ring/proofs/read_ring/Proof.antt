@@ -3,6 +3,7 @@ use native.Mathlib.Omega.{arith}
 use Prim.Native.Nat.{_<_}
 use borrow.Author.Needs.{needs}
 use Rattle.refusal.proofs.Ladder.{told-yes, verdicts}
+use Rattle.line.proofs.Reading.{written, written-long}
 use Rattle.ring.proofs.Ways.{listable, start-inside, refused, read, empty, not-empty, many, not-many, the-line}
 use Rattle.ring.proofs.read_ring.Statement.{statement}
 use Rattle.ring.proofs.read_ring.Tie as tie
@@ -40,5 +41,5 @@ read-ring-spec =
     (λ c κs. search needs)
     (λ c κs. search needs)
     (λ c κs. search needs)
-    (λ c. search needs)
-    (λ c. read _ _ _ _ _ (search (not-empty, not-many, verdicts) depth 12) (search (the-line, verdicts, needs))))
+    (λ c. search (written-long, needs))
+    (λ c. read _ _ _ _ _ (search (not-empty, not-many, verdicts) depth 12) (search (the-line, written, verdicts, needs))))

@@ -5,12 +5,13 @@ use mathlib.Core.List.{List, [], _∷_}
 use Prim.Native.Nat.{ℕ, zero, suc, _+_, _-_, _*_, _%_, _<_}
 use lib.Dec.{eqb}
 use lib.ListN.{length, getD, replicate, set, take}
+use Rattle.numbers.specs.Below.{AllBelow}
 use Rattle.numbers.specs.Total.{total}
 use Rattle.field.specs.Field.{sum, product, α, power}
 
 -- a character is a number from 0 to 63
 abbrev pub Characters : List ℕ → Type 0
-Characters w = (a : ℕ) → getD w a 0 < 64
+Characters = AllBelow 64
 
 -- the power sum S_j of 63 characters: the sum over addresses a of c_a · α^(j(62-a)), exponents taken modulo 63
 unfoldable pub powerSum : ℕ → List ℕ → ℕ

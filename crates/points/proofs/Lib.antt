@@ -1,2 +1,2 @@
--- The values of characters, a character and a block at a time.
+-- The values of characters, a character and a part at a time.
 pub mod Steps

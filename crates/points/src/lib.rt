@@ -1,47 +1,68 @@
 // The value of a word at ten points, packed, 21 characters at a time.
 ghost use mathlib.Core.Path.{_≡_};
 ghost use mathlib.Core.List.{[], _∷_};
+ghost use Prim.Native.Nat.{_+_, _≤_};
+ghost use lib.ListN.{length};
 ghost use Rattle.lanes.specs.Lanes.{pack};
-ghost use Rattle.points.specs.Value.{value};
+ghost use Rattle.points.specs.Value.{value, part, valuesOf};
 
-// The powers 21 of the ten points, packed.
-const POWERS_21: u64 = 1061450585291366075;
+// The powers 21 of the ten points are cube roots of 1: 1, ω, which is 59, or ω², which is ω + 1. Where a point's is p, three parts of 21 characters with the
+// values a, b and c have the value p² a + p b + c: each of p² and p is ω or 1, and 1 more where the lane is in a mask.
+const SHARED: u64 = 1079465052537102075;
 
-// The ten values of 63 characters. Those of the blocks before, times the powers 21, and those of the next block are added.
-pub fn values(word: [u8; 63]) -> u64
-    ensures { λ r. ⌜ r ≡ pack 10 (value word) ⌝ }
+// The lanes in which p² is ω + 1, and those in which p is.
+const MORE_FIRST: u64 = 17732991195021375;
+
+const MORE_SECOND: u64 = 1134911436481368000;
+
+// The ten values of 63 characters; of another length 0. The values of three parts of 21 are taken by themselves, and joined.
+pub fn values(word: &[u8]) -> u64
+    ensures { λ r. ⌜ r ≡ valuesOf (now (word .entry)) ⌝ }
 {
-    let mut p: u64 = 0;
-    let mut i: usize = 0;
-    while i < 63 {
-        let q = lanes::products(POWERS_21, p);
-        let r = block(
-            word[i],
-            word[i + 1],
-            word[i + 2],
-            word[i + 3],
-            word[i + 4],
-            word[i + 5],
-            word[i + 6],
-            word[i + 7],
-            word[i + 8],
-            word[i + 9],
-            word[i + 10],
-            word[i + 11],
-            word[i + 12],
-            word[i + 13],
-            word[i + 14],
-            word[i + 15],
-            word[i + 16],
-            word[i + 17],
-            word[i + 18],
-            word[i + 19],
-            word[i + 20],
-        );
-        p = q ^ r;
-        i += 21;
+    if word.len() != 63 {
+        return 0;
     }
-    p
+    let mut parts = [0u64; 3];
+    let mut k: usize = 0;
+    while k < 3 {
+        let r = part_values(word, 21 * k);
+        parts[k] = r;
+        k += 1;
+    }
+    let a = parts[0];
+    let b = parts[1];
+    let shared = lanes::products(SHARED, a ^ b);
+    shared ^ (a & MORE_FIRST) ^ (b & MORE_SECOND) ^ parts[2]
+}
+
+// The ten values of the 21 characters from an address on.
+fn part_values(word: &[u8], i: usize) -> u64
+    requires { ⌜ i + 21 ≤ length (now word) ⌝ }
+    ensures { λ r. ⌜ r ≡ pack 10 (value (part (now (word .entry)) i 0 21)) ⌝ }
+{
+    block(
+        word[i],
+        word[i + 1],
+        word[i + 2],
+        word[i + 3],
+        word[i + 4],
+        word[i + 5],
+        word[i + 6],
+        word[i + 7],
+        word[i + 8],
+        word[i + 9],
+        word[i + 10],
+        word[i + 11],
+        word[i + 12],
+        word[i + 13],
+        word[i + 14],
+        word[i + 15],
+        word[i + 16],
+        word[i + 17],
+        word[i + 18],
+        word[i + 19],
+        word[i + 20],
+    )
 }
 
 // The ten values of 21 characters, from the last: each adds its terms, from the table of those that have as many after them.

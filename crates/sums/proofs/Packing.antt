@@ -13,7 +13,8 @@ use Rattle.field.proofs.Laws
 use Rattle.lanes.specs.Lanes.{pack, lane}
 use Rattle.lanes.proofs.Laws.{pack-same, lane-pack, lane-after, pack-lanes, pack-last, pack-split}
 use Rattle.terms.specs.Terms.{point}
-use Rattle.points.specs.Value.{value}
+use Rattle.points.specs.Value.{value, valuesOf}
+use Rattle.points.proofs.Steps.{whole-values}
 use Rattle.code.specs.Word.{powerSum}
 use Rattle.code.specs.Inside.{PowerSums}
 use Rattle.code.proofs.Sums.{powerSum-lt, powerSum-same, powerSum-value}
@@ -51,17 +52,25 @@ middle-sum w =
 
 -- ---- as the tables give them
 
-module _ (w v : List ℕ) (o x : ℕ) (f : Filled w v) (e : o ≡ pack 10 (value v)) (q : x ≡ total (length v) (λ a. getD v a 0)) where
-  pub packed-by : Packed w (record { outer = o; middle = x % 64 })
-  packed-by =
-      record {
-        outer = e
-            ∙ pack-same 10 (value v) (λ k. powerSum (58 + k + k / 5) w)
-            (λ k h. outer-sum v (f .long) k ∙ powerSum-same (58 + k + k / 5) v w (f .same));
-        middle =
-            ap (λ (n : ℕ). n % 64) (q ∙ ap (λ (n : ℕ). total n (λ a. getD v a 0)) (f .long)) ∙ middle-sum v
-            ∙ powerSum-same 63 v w (f .same);
-      }
+pub packed-by : (w : List ℕ) (o x : ℕ) → length w ≡ 63 → o ≡ valuesOf w → x ≡ total (length w) (λ a. getD w a 0) → Packed w (record { outer = o; middle = x % 64 })
+packed-by w o x l e q =
+    record {
+      outer = e ∙ whole-values w l ∙ pack-same 10 (value w) (λ k. powerSum (58 + k + k / 5) w) (λ k h. outer-sum w l k);
+      middle = ap (λ (n : ℕ). n % 64) (q ∙ ap (λ (n : ℕ). total n (λ a. getD w a 0)) l) ∙ middle-sum w;
+    }
+
+-- what a word lacks is 0 in its sums too
+pub packed-filled : (w v : List ℕ) (r : PackedSums) → Filled w v → Packed v r → Packed w r
+packed-filled w v r f p =
+    record {
+      outer = p .outer
+          ∙ pack-same 10 (λ k. powerSum (58 + k + k / 5) v) (λ k. powerSum (58 + k + k / 5) w) (λ k h. powerSum-same (58 + k + k / 5) v w (f .same));
+      middle = p .middle ∙ powerSum-same 63 v w (f .same);
+    }
+
+-- and it has 63 characters then
+pub filled-long : (w v : List ℕ) → Filled w v → length v ≡ 63
+filled-long w v f = f .long
 
 -- ---- as they are held
 

@@ -1,5 +1,6 @@
 // The eleven power sums of a word by tables, several to a number, and the form that holds them packed.
 ghost use mathlib.Core.Path.{_≡_};
+ghost use lib.ListN.{length};
 ghost use Rattle.code.specs.Word.{added};
 ghost use Rattle.code.specs.Inside.{PowerSums};
 ghost use Rattle.sums.specs.Held.{eleven, lowered};
@@ -52,29 +53,38 @@ pub fn power_sums(word: &[u8]) -> [u8; 11]
     sums
 }
 
-// The eleven sums as the tables give them.
+// The eleven sums as the tables give them. A word of 63 is read where it lies.
 fn packed_sums(word: &[u8]) -> PackedSums
     ensures { λ r. ⌜ Packed (now (word .entry)) r ⌝ }
 {
-    let v = filled(word);
-    let outer = points::values(v);
-    let middle = eights::xor_of(&v) % 64;
+    if word.len() == 63 {
+        return whole_sums(word);
+    }
+    filled_sums(word)
+}
+
+fn whole_sums(word: &[u8]) -> PackedSums
+    requires { ⌜ length (now word) ≡ 63 ⌝ }
+    ensures { λ r. ⌜ Packed (now (word .entry)) r ⌝ }
+{
+    let outer = points::values(word);
+    let middle = eights::xor_of(word) % 64;
     PackedSums { outer, middle }
 }
 
-// The first 63 characters, 0 for each that the word lacks. A word of 63 is copied with no further test.
+fn filled_sums(word: &[u8]) -> PackedSums
+    ensures { λ r. ⌜ Packed (now (word .entry)) r ⌝ }
+{
+    let v = filled(word);
+    whole_sums(&v)
+}
+
+// The first 63 characters, 0 for each that the word lacks.
 fn filled(word: &[u8]) -> [u8; 63]
     ensures { λ r. ⌜ Filled (now (word .entry)) r ⌝ }
 {
     let mut v = [0u8; 63];
     let mut a: usize = 0;
-    if word.len() == 63 {
-        while a < 63 {
-            v[a] = word[a];
-            a += 1;
-        }
-        return v;
-    }
     while a < 63 {
         v[a] = eights::byte_at(word, a);
         a += 1;

@@ -1,26 +1,30 @@
--- `points::values` meets its contract: the loop keeps the values of the blocks passed.
+-- `points::values` meets its contract: the loop keeps the values of the parts passed, and three are joined.
 use Prim.Native.Nat.{_-_}
 use borrow.Author.Needs.{needs}
-use Rattle.points.proofs.Steps.{ValuesTo, values-none, values-again, values-all, part}
+use Rattle.points.proofs.Steps.{PartsTo, parts-none, parts-again, other-length, values-joined}
 use Rattle.points.proofs.values.Statement.{statement}
 use Rattle.points.proofs.values.Tie as tie
 
 abbrev Inv-loop : tie.InvT-loop
-Inv-loop word p₀ i₀ p i = ValuesTo word p i
+Inv-loop word parts₀ k₀ parts k = PartsTo word parts k
 
 abbrev μ-loop : tie.MeasureT-loop
-μ-loop word p₀ i₀ p i = 63 - i
-
-loop-holds : tie.Need-loop-holds Inv-loop μ-loop
-loop-holds c = search (values-none, needs)
-
-loop-again : tie.Need-loop-again Inv-loop μ-loop
-unfolding part
-loop-again c =
-    values-again _ _ _ _ _ (c .before .before .loop-test .taken) (c .before .before .before .loop .inv) (c .before .products .ensures) (c .block .ensures)
+μ-loop word parts₀ k₀ parts k = 3 - k
 
 returns : tie.Need-returns Inv-loop μ-loop
-returns c = search (values-all, needs)
+returns c = search (other-length, needs)
+
+loop-holds : tie.Need-loop-holds Inv-loop μ-loop
+loop-holds c = search (parts-none, needs)
+
+part-values-requires : tie.Need-part-values-requires Inv-loop μ-loop
+part-values-requires c κs = search needs
+
+loop-again : tie.Need-loop-again Inv-loop μ-loop
+loop-again c = search (parts-again, needs)
+
+returns-2 : tie.Need-returns-2 Inv-loop μ-loop
+returns-2 c = search (values-joined, needs)
 
 pub values-spec : {M : Type 1} → statement M
 values-spec =
@@ -28,51 +32,17 @@ values-spec =
     (tie.spec
     Inv-loop
     μ-loop
+    returns
     loop-holds
-    (λ c κs. search needs)
+    (λ c. search needs)
+    part-values-requires
     (λ c. search needs)
     (λ c. search needs)
-    (λ c. search needs)
-    (λ c. search needs)
-    (λ c. search needs)
-    (λ c. search needs)
-    (λ c. search needs)
-    (λ c. search needs)
-    (λ c. search needs)
-    (λ c. search needs)
-    (λ c. search needs)
-    (λ c. search needs)
-    (λ c. search needs)
-    (λ c. search needs)
-    (λ c. search needs)
-    (λ c. search needs)
-    (λ c. search needs)
-    (λ c. search needs)
-    (λ c. search needs)
-    (λ c. search needs)
-    (λ c. search needs)
-    (λ c. search needs)
-    (λ c. search needs)
-    (λ c. search needs)
-    (λ c. search needs)
-    (λ c. search needs)
-    (λ c. search needs)
-    (λ c. search needs)
-    (λ c. search needs)
-    (λ c. search needs)
-    (λ c. search needs)
-    (λ c. search needs)
-    (λ c. search needs)
-    (λ c. search needs)
-    (λ c. search needs)
-    (λ c. search needs)
-    (λ c. search needs)
-    (λ c. search needs)
-    (λ c. search needs)
-    (λ c. search needs)
-    (λ c. search needs)
-    (λ c κs. search needs)
     (λ c. search needs)
     (λ c. search needs)
     loop-again
-    returns)
+    (λ c. search needs)
+    (λ c. search needs)
+    (λ c κs. search needs)
+    (λ c. search needs)
+    returns-2)

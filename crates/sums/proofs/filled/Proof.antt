@@ -1,4 +1,4 @@
--- `sums::filled` meets its contract: each loop keeps that the characters passed are in place.
+-- `sums::filled` meets its contract: the loop keeps that the characters passed are in place.
 use Prim.Native.Nat.{_-_}
 use borrow.Author.Needs.{needs}
 use Rattle.sums.proofs.Loops.{FilledTo, filled-none, filled-again, filled-all}
@@ -11,29 +11,14 @@ Inv-loop word v₀ a₀ v a = FilledTo word v a
 abbrev μ-loop : tie.MeasureT-loop
 μ-loop word v₀ a₀ v a = 63 - a
 
-abbrev Inv-loop2 : tie.InvT-loop2
-Inv-loop2 word v₀ a₀ v a = FilledTo word v a
-
-abbrev μ-loop2 : tie.MeasureT-loop2
-μ-loop2 word v₀ a₀ v a = 63 - a
-
-loop-holds : tie.Need-loop-holds Inv-loop μ-loop Inv-loop2 μ-loop2
+loop-holds : tie.Need-loop-holds Inv-loop μ-loop
 loop-holds c = search (filled-none, needs)
 
-loop-again : tie.Need-loop-again Inv-loop μ-loop Inv-loop2 μ-loop2
+loop-again : tie.Need-loop-again Inv-loop μ-loop
 loop-again c = search (filled-again, needs)
 
-returns : tie.Need-returns Inv-loop μ-loop Inv-loop2 μ-loop2
+returns : tie.Need-returns Inv-loop μ-loop
 returns c = search (filled-all, needs)
-
-loop2-holds : tie.Need-loop2-holds Inv-loop μ-loop Inv-loop2 μ-loop2
-loop2-holds c = search (filled-none, needs)
-
-loop2-again : tie.Need-loop2-again Inv-loop μ-loop Inv-loop2 μ-loop2
-loop2-again c = search (filled-again, needs)
-
-returns-2 : tie.Need-returns-2 Inv-loop μ-loop Inv-loop2 μ-loop2
-returns-2 c = search (filled-all, needs)
 
 pub filled-spec : {M : Type 1} → statement M
 filled-spec =
@@ -41,19 +26,10 @@ filled-spec =
     (tie.spec
     Inv-loop
     μ-loop
-    Inv-loop2
-    μ-loop2
     loop-holds
-    (λ c. search needs)
-    (λ c. search needs)
-    (λ c. search needs)
-    (λ c. search needs)
-    loop-again
-    returns
-    loop2-holds
     (λ c κs. search needs)
     (λ c. search needs)
     (λ c. search needs)
     (λ c. search needs)
-    loop2-again
-    returns-2)
+    loop-again
+    returns)

@@ -20,7 +20,7 @@ import pathlib
 from typing import NamedTuple, Optional
 
 # tools/tables writes this from version.txt, and the refusals below from refusals.txt.
-__version__ = "4.1.0"
+__version__ = "4.2.0"
 
 _u8 = ctypes.c_uint8
 _u16 = ctypes.c_uint16
@@ -34,7 +34,7 @@ PANEL = 294
 
 # The numbered answers, as the paper gives them; 0 is a success.
 REFUSALS = {
-    1: "a line or ring is not 63 long, or a text is not 50 long",
+    1: "a line or ring is not 63 long, a text is not 50 long, or a spool's length is no multiple of 63 or is over 16,065",
     2: "a character (a register's too) or field operand is over 63, or a data row over 127",
     3: "radius over 5",
     4: "number over 4095",

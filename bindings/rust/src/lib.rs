@@ -26,7 +26,7 @@ pub use refusal::Refusal;
 
 /// The version that this crate was made for: a million times the major number, a thousand times the minor, and the patch. It is the crate's own;
 /// tools/tables writes it from version.txt.
-pub const VERSION: u32 = 4001000;
+pub const VERSION: u32 = 4002000;
 
 /// The version of the library that is linked, written as [`VERSION`] is.
 pub fn version() -> u32 {

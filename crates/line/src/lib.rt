@@ -1,13 +1,16 @@
 // Reading a line: the line within the radius, or a refusal exactly when there is none.
 ghost use mathlib.Core.Path.{_≡_};
 ghost use Prim.Native.Nat.{_+_, _*_, _%_};
-ghost use lib.ListN.{getD};
+ghost use lib.ListN.{length, getD};
 ghost use Rattle.refusal.specs.Promise.{Tells};
 ghost use Rattle.code.specs.Word.{number};
+ghost use Rattle.sums.specs.Held.{eleven};
 ghost use Rattle.line.specs.Promises.{readingNumbers, plainNumbers, Possible, Reads};
-ghost use Rattle.line.specs.Inside.{NearestLine, IsWanted, Writes};
+ghost use Rattle.line.specs.Inside.{NearestLine, ErrorSums, IsWanted, Writes};
 use mender::Mended;
+use mender::NOWHERE;
 use refusal::Refusal;
+use sums::Sums;
 
 // The number that the line must carry, or none.
 pub enum Wanted {
@@ -36,7 +39,7 @@ pub struct PlainReading {
     pub last: u8,
 }
 
-// Reads a line: writes the line within the radius of the word.
+// Reads a line: writes the line within the radius of the word. Nearly all words are lines themselves, and are copied at once.
 pub fn read_line(word: &[u8], radius: u8, wanted: Wanted, output: &mut [u8]) -> LineReading
     ensures { λ r. ⌜ Reads (now (word .entry)) radius wanted (now (output .entry)) (readingNumbers r) (now (output .exit)) ⌝ }
 {
@@ -55,12 +58,27 @@ pub fn read_line(word: &[u8], radius: u8, wanted: Wanted, output: &mut [u8]) -> 
     if !possible(wanted) {
         return LineReading::Refused(Refusal::NumberOver);
     }
-    let found = nearest_line(word, radius);
+    let errors = error_sums(word);
+    if mender::all_zero(errors) {
+        let own = number_of(word);
+        if !is_wanted(wanted, own) {
+            return LineReading::Refused(Refusal::OtherNumber);
+        }
+        put_word(word, output);
+        return LineReading::Line {
+            number: own,
+            distance: 0,
+            first: NOWHERE,
+            last: NOWHERE,
+        };
+    }
+    // A part, and so a slice of its own: else the compiler copies the word's pointer and length before all tests, and these wait for it.
+    let found = mender::without_errors(&word[..63], errors, radius as usize);
     if !found.found {
         return LineReading::Refused(Refusal::NoLine);
     }
     let line = found.word;
-    let number = number_of(line);
+    let number = number_of(&line);
     if !is_wanted(wanted, number) {
         return LineReading::Refused(Refusal::OtherNumber);
     }
@@ -100,6 +118,13 @@ pub fn plain(reading: LineReading) -> PlainReading
     }
 }
 
+// The sums of what a word and any line differ by, as a line has those of the marks.
+fn error_sums(word: &[u8]) -> Sums
+    ensures { λ r. ⌜ ErrorSums (now (word .entry)) (eleven r) ⌝ }
+{
+    sums::eleven_added(sums::eleven_sums(word), sums::packed(code::mark_sums()))
+}
+
 // The line within the radius of a word: the radius counts up to 5. A line's power sums are those of the marks.
 pub fn nearest_line(word: &[u8], radius: u8) -> Mended
     ensures { λ r. ⌜ NearestLine (now (word .entry)) radius r ⌝ }
@@ -108,10 +133,12 @@ pub fn nearest_line(word: &[u8], radius: u8) -> Mended
 }
 
 // The number that a line carries: of each of its two characters the low six bits count.
-pub fn number_of(line: [u8; 63]) -> u16
-    ensures { λ r. ⌜ r ≡ getD line 50 0 % 64 * 64 + getD line 51 0 % 64 ⌝ }
+pub fn number_of(line: &[u8]) -> u16
+    ensures { λ r. ⌜ r ≡ getD (now (line .entry)) 50 0 % 64 * 64 + getD (now (line .entry)) 51 0 % 64 ⌝ }
 {
-    (line[50] % 64) as u16 * 64 + (line[51] % 64) as u16
+    let high = eights::byte_at(line, 50);
+    let low = eights::byte_at(line, 51);
+    (high % 64) as u16 * 64 + (low % 64) as u16
 }
 
 // Writes a line over an output of its length, and over no other.
@@ -122,6 +149,16 @@ pub fn put(line: [u8; 63], output: &mut [u8])
         return;
     }
     bytes::copy(&line, output);
+}
+
+// Writes a word of 63 characters over an output of as many. It goes by an array, of which the compiler knows that it is not the output too.
+fn put_word(word: &[u8], output: &mut [u8])
+    requires { ⌜ (length (now word) ≡ 63) × (length (now output) ≡ 63) ⌝ }
+    ensures { λ _. ⌜ now (output .exit) ≡ now (word .entry) ⌝ }
+{
+    let mut itself = [0u8; 63];
+    bytes::copy(word, &mut itself);
+    put(itself, output);
 }
 
 // Whether the number wanted can be that of a line.

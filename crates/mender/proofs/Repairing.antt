@@ -31,7 +31,7 @@ use Rattle.mender.specs.declared.Mended.{Mended}
 use Rattle.mender.specs.declared.Single.{Single}
 use Rattle.mender.specs.Mender.{Fits, MendsTo, Mends, Nearest, HasSums}
 use Rattle.mender.specs.Inside.{Nothing}
-use Rattle.mender.specs.Found.{lone, OneError, ElementsTo, Clear, Repairs, sixth}
+use Rattle.mender.specs.Found.{lone, OneError, ElementsTo, Clear, Repairs, Without, sixth}
 use Rattle.mender.proofs.OneError.{lone-long, lone-here, lone-other, lone-weight, weight-nothing, sums-nothing}
 use Rattle.mender.proofs.Finding.{true-false, found-none, none-near, one-near, nearest-none, mended}
 
@@ -149,6 +149,13 @@ pub repairs-more : (s w r : List ℕ) (e : ℕ) (f : Mended) → length w ≡ 63
     → Repairs s w e (record { found = true; weight = f .weight; first = f .first; last = f .last; word = r })
 repairs-more s w r e f long a q g = repairs-by s w r (f .word) e (f .weight) (f .first) (f .last) long (a .fits q) (a .weighs q) g (a .ends q)
 
+-- a word of another length is not repaired, and one of 63 characters within five errors
+pub without-other : (s w : List ℕ) (e : ℕ) (m : Mended) → (length w ≡ 63 → ⊥) → Nothing m → Without s w e m
+without-other s w e m d n = record { whole = λ l. absurd (d l); other = λ _. n }
+
+pub without-whole : (s w : List ℕ) (e x : ℕ) (m : Mended) → length w ≡ 63 → x ≡ min e 5 → Repairs s w x m → Without s w e m
+without-whole s w e x m l q r = record { whole = λ _. subst (λ (k : ℕ). Repairs s w k m) q r; other = λ d. absurd (d l) }
+
 -- ---- one character changed
 
 pub one-changed : (w r : List ℕ) (a v : ℕ) → length w ≡ 63 → a < 63 → r ≡ added w (replicate 63 0) → set r a (bitXor (getD r a 0) v) ≡ added w (lone a v)
@@ -263,8 +270,7 @@ pub address-fits : (s : List ℕ) (o : Single) → OneError s o → o .found ≡
 address-fits s o a q = let h = a .inside q in omega arith
 
 -- what the nearest word asks of its parts
-pub wanted-near : (w u s d : List ℕ) (h : Sums) (e x : ℕ) (b f : Bool) (m : Mended) → length w ≡ 63 → Tells (Characters w) b → b ≡ true → PowerSums w u → length s ≡ 11
-    → Tells (ElementsTo s 11) f → f ≡ true → eleven h ≡ lowered s → d ≡ added u (eleven h) → x ≡ min e 5 → Repairs d w x m → Nearest (HasSums s) w (min e 5) m
-wanted-near w u s d h e x b f m l t q us ls te tq eh ed ex y =
-    subst (λ (k : ℕ). Nearest (HasSums s) w k m) ex
-    (near w u s d x b m l t q us ls (ed ∙ ap (added u) (packed-same s h f ls te tq eh)) y)
+pub wanted-near : (w u s d : List ℕ) (h : Sums) (e : ℕ) (b f : Bool) (m : Mended) → length w ≡ 63 → Tells (Characters w) b → b ≡ true → PowerSums w u → length s ≡ 11
+    → Tells (ElementsTo s 11) f → f ≡ true → eleven h ≡ lowered s → d ≡ added u (eleven h) → Without d w e m → Nearest (HasSums s) w (min e 5) m
+wanted-near w u s d h e b f m l t q us ls te tq eh ed y =
+    near w u s d (min e 5) b m l t q us ls (ed ∙ ap (added u) (packed-same s h f ls te tq eh)) (y .whole l)

@@ -1,11 +1,13 @@
 -- The mender's theorems: one word at most fits the sums, and any two answers that its promises allow are equal.
 use mathlib.Core.Path.{_≡_, refl, sym, ap, ap₂, _∙_}
 use mathlib.Core.Bool.{Bool, true, false}
+use mathlib.Core.Logic.{⊎-elim}
 use mathlib.Core.List.{List}
 use Prim.Native.Nat.{ℕ, min, _+_, _/_, _≤_}
 use native.Mathlib.Nat.{le-trans, le-of-eq}
 use native.Mathlib.Omega.{arith}
 use lib.ListN.{length, getD, replicate}
+use Rattle.numbers.proofs.Cases.{same-or-not}
 use Rattle.field.specs.Field.{sum}
 use Rattle.field.proofs.Laws
 use Rattle.polynomial.specs.Sums.{weight}
@@ -18,6 +20,8 @@ use Rattle.code.proofs.Theorems.{one-clean-near}
 use Rattle.code.proofs.Sums.{places, places-good, values-63, powerSum-moment, powerSum-added}
 use Rattle.mender.specs.declared.Mended.{Mended}
 use Rattle.mender.specs.Mender.{Fits, Mends, Word, Nearest, HasSums, NearestWith, NearestClean}
+use Rattle.mender.specs.Inside.{Nothing}
+use Rattle.mender.specs.Found.{Repairs, Without}
 
 -- one word at most fits, where the errors are at most half the sums
 pub one-fits : (s : List ℕ) (c e : ℕ) (u v : List ℕ) → e + e ≤ c → Fits s c e u → Fits s c e v → u ≡ v
@@ -62,6 +66,33 @@ one-mend s c e m n p q = by (m .found) (n .found) refl refl
     by false false x y =
         one-mended m n (x ∙ sym y) (p .no-weight x ∙ sym (q .no-weight y)) (p .no-first x ∙ sym (q .no-first y)) (p .no-last x ∙ sym (q .no-last y))
         (p .no-word x ∙ sym (q .no-word y))
+
+-- any two answers of repairing a word are equal
+one-repair : (s w : List ℕ) (e : ℕ) (m n : Mended) → e ≤ 5 → Repairs s w e m → Repairs s w e n → m ≡ n
+one-repair s w e m n h p q = by (m .found) (n .found) refl refl
+  where
+    by : (a b : Bool) → m .found ≡ a → n .found ≡ b → m ≡ n
+    by true true x y =
+        let f = p .repaired x in
+        let g = q .repaired y in
+        let o : f .errors ≡ g .errors = one-fits s 11 e (f .errors) (g .errors) (omega arith) (f .fits) (g .fits) in
+        let z : m .word ≡ n .word = f .word ∙ ap (added w) o ∙ sym (g .word) in
+        one-mended m n (x ∙ sym y) (f .weighs ∙ ap weight o ∙ sym (g .weighs)) (one-first w z (f .ends) (g .ends)) (one-last w z (f .ends) (g .ends)) z
+    by true false x y = absurd (q .none y (p .repaired x .errors) (p .repaired x .fits))
+    by false true x y = absurd (p .none x (q .repaired y .errors) (q .repaired y .fits))
+    by false false x y =
+        one-mended m n (x ∙ sym y) (p .no-weight x ∙ sym (q .no-weight y)) (p .no-first x ∙ sym (q .no-first y)) (p .no-last x ∙ sym (q .no-last y))
+        (p .no-word x ∙ sym (q .no-word y))
+
+one-nothing : (m n : Mended) → Nothing m → Nothing n → m ≡ n
+one-nothing m n p q =
+    one-mended m n (p .not-found ∙ sym (q .not-found)) (p .no-weight ∙ sym (q .no-weight)) (p .no-first ∙ sym (q .no-first)) (p .no-last ∙ sym (q .no-last))
+    (p .no-word ∙ sym (q .no-word))
+
+pub one-without : (s w : List ℕ) (e : ℕ) (m n : Mended) → Without s w e m → Without s w e n → m ≡ n
+one-without s w e m n p q =
+    ⊎-elim (λ l. one-repair s w (min e 5) m n (omega arith) (p .whole l) (q .whole l)) (λ d. one-nothing m n (p .other d) (q .other d))
+    (same-or-not (length w) 63)
 
 -- any two answers of looking for the nearest word are equal, where one word at most has the property within the distance
 pub one-nearest : (P : List ℕ → Type 0) (w : List ℕ) (e : ℕ) (m n : Mended)

@@ -2,8 +2,8 @@
 use mathlib.Core.Path.{_≡_}
 use mathlib.Core.Bool.{true, false}
 use mathlib.Core.List.{List}
-use Prim.Native.Nat.{ℕ, _+_, _<_}
-use lib.ListN.{getD, replicate, set}
+use Prim.Native.Nat.{ℕ, min, _+_, _<_}
+use lib.ListN.{length, getD, replicate, set}
 use Rattle.numbers.specs.Total.{total}
 use Rattle.field.specs.Field.{product}
 use Rattle.lanes.specs.Lanes.{lane}
@@ -13,6 +13,7 @@ use Rattle.code.specs.Inside.{Ends}
 use Rattle.mender.specs.declared.Mended.{Mended}
 use Rattle.mender.specs.declared.Single.{Single}
 use Rattle.mender.specs.Mender.{Fits}
+use Rattle.mender.specs.Inside.{Nothing}
 
 -- 63 zeros with one character set
 unfoldable pub lone : ℕ → ℕ → List ℕ
@@ -48,6 +49,11 @@ pub record Repairs (s w : List ℕ) (e : ℕ) (m : Mended) : Type 0 where
   pub no-first : m .found ≡ false → m .first ≡ 0
   pub no-last : m .found ≡ false → m .last ≡ 0
   pub no-word : m .found ≡ false → m .word ≡ replicate 63 0
+
+-- the same within five errors at most, of a word of 63 characters; of another nothing is found
+pub record Without (s w : List ℕ) (e : ℕ) (m : Mended) : Type 0 where
+  pub whole : length w ≡ 63 → Repairs s w (min e 5) m
+  pub other : (length w ≡ 63 → ⊥) → Nothing m
 
 -- the sixth window, combined with the coefficients of a packed row, which stand after five lanes
 unfoldable pub sixth : ℕ → List ℕ → ℕ

@@ -7,7 +7,7 @@ ghost use Rattle.refusal.specs.Promise.{Tells};
 ghost use Rattle.code.specs.Word.{added};
 ghost use Rattle.sums.specs.Held.{eleven};
 ghost use Rattle.mender.specs.Mender.{MendsTo, Mends, NearestWith, NearestClean};
-ghost use Rattle.mender.specs.Found.{lone, OneError, ElementsTo, Clear, Repairs, sixth};
+ghost use Rattle.mender.specs.Found.{lone, OneError, ElementsTo, Clear, Repairs, Without, sixth};
 ghost use Rattle.mender.specs.Inside.{Agree, Nothing};
 use lanes::FIVE_LANES;
 use lanes::NINE_LANES;
@@ -19,7 +19,7 @@ mod rows;
 mod values;
 
 // What stands for an address where there is none: the one after the last.
-const NOWHERE: u8 = 63;
+pub const NOWHERE: u8 = 63;
 
 // A word that was found. Errors: how many of its characters are not 0, and the first and the last address of these. A word near another: how far it
 // lies, and the first and the last address at which it differs.
@@ -71,7 +71,17 @@ pub fn nearest(word: &[u8], sums: [u8; 11], e: usize) -> Mended
         return nothing();
     }
     let differences = sums::eleven_added(sums::eleven_sums(word), sums::packed(sums));
-    repaired(word, differences, least(e, 5))
+    without_errors(word, differences, e)
+}
+
+// A word without the at most e errors that have these sums, where it has 63 characters: e counts up to 5.
+pub fn without_errors(word: &[u8], sums: Sums, e: usize) -> Mended
+    ensures { λ r. ⌜ Without (eleven sums) (now (word .entry)) e r ⌝ }
+{
+    if word.len() != 63 {
+        return nothing();
+    }
+    repaired(word, sums, least(e, 5))
 }
 
 // A word without the at most e errors that have these sums. No error and one are told at once, since nearly all words have no more.
@@ -120,7 +130,7 @@ fn repaired(word: &[u8], sums: Sums, e: usize) -> Mended
 }
 
 // Whether eleven sums are all 0.
-fn all_zero(sums: Sums) -> bool
+pub fn all_zero(sums: Sums) -> bool
     ensures { λ r. ⌜ Tells (Clear (eleven sums)) r ⌝ }
 {
     if sums.first % TEN_LANES != 0 {

@@ -89,7 +89,7 @@ pub fn read_ring(ring: &[u8], radius: u8, output: &mut [u8]) -> RingReading
     line::put(line, output);
     RingReading::Line {
         start: start,
-        number: line::number_of(line),
+        number: line::number_of(&line),
         distance: found.weight,
         first: found.first,
         last: found.last,

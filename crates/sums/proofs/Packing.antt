@@ -2,10 +2,11 @@
 use mathlib.Core.Path.{_≡_, refl, sym, ap, ap₂, _∙_, subst}
 use mathlib.Core.Logic.{⊎-elim}
 use mathlib.Core.List.{List}
-use Prim.Native.Nat.{ℕ, zero, suc, _+_, _-_, _*_, _/_, _%_, _<_}
-use native.Mathlib.Nat.{eq-or-lt-of-le, le-of-suc-le-suc, mod-eq-of-lt}
+use Prim.Native.Nat.{ℕ, zero, suc, _+_, _-_, _*_, _/_, _%_, _<_, _≤_}
+use native.Mathlib.Nat.{eq-or-lt-of-le, le-of-suc-le-suc, le-of-eq, mod-eq-of-lt}
 use native.Mathlib.Omega.{arith}
-use lib.ListN.{length, getD}
+use lib.ListN.{length, getD, take}
+use lib.Seq.{length-take-le, getD-take}
 use Rattle.numbers.specs.Total.{total}
 use Rattle.numbers.proofs.Totals.{total-same}
 use Rattle.field.specs.Field.{sum, product, α, power}
@@ -52,7 +53,7 @@ middle-sum w =
 
 -- ---- as the tables give them
 
-pub packed-by : (w : List ℕ) (o x : ℕ) → length w ≡ 63 → o ≡ valuesOf w → x ≡ total (length w) (λ a. getD w a 0) → Packed w (record { outer = o; middle = x % 64 })
+packed-by : (w : List ℕ) (o x : ℕ) → length w ≡ 63 → o ≡ valuesOf w → x ≡ total (length w) (λ a. getD w a 0) → Packed w (record { outer = o; middle = x % 64 })
 packed-by w o x l e q =
     record {
       outer = e ∙ whole-values w l ∙ pack-same 10 (value w) (λ k. powerSum (58 + k + k / 5) w) (λ k h. outer-sum w l k);
@@ -68,9 +69,20 @@ packed-filled w v r f p =
       middle = p .middle ∙ powerSum-same 63 v w (f .same);
     }
 
--- and it has 63 characters then
-pub filled-long : (w v : List ℕ) → Filled w v → length v ≡ 63
-filled-long w v f = f .long
+-- and then it has 63 characters
+pub filled-long : (w v : List ℕ) → Filled w v → 63 ≤ length v
+filled-long w v f = le-of-eq (sym (f .long))
+
+pub first-long : (w : List ℕ) → 63 ≤ length w → 63 ≡ length (take 63 w)
+first-long w h = sym (length-take-le 63 w h)
+
+-- what lies past the first 63 is in no sum
+pub packed-first : (w : List ℕ) (o x : ℕ) → 63 ≤ length w → o ≡ valuesOf (take 63 w) → x ≡ total (length (take 63 w)) (λ a. getD (take 63 w) a 0)
+    → Packed w (record { outer = o; middle = x % 64 })
+packed-first w o x h e q =
+    let v : List ℕ = take 63 w in
+    let long : length v ≡ 63 = sym (first-long w h) in
+    packed-filled w v (record { outer = o; middle = x % 64 }) (record { long = long; same = λ a l. getD-take 63 w a 0 l }) (packed-by v o x long e q)
 
 -- ---- as they are held
 

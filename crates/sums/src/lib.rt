@@ -1,5 +1,6 @@
 // The eleven power sums of a word by tables, several to a number, and the form that holds them packed.
 ghost use mathlib.Core.Path.{_≡_};
+ghost use Prim.Native.Nat.{_≤_};
 ghost use lib.ListN.{length};
 ghost use Rattle.code.specs.Word.{added};
 ghost use Rattle.code.specs.Inside.{PowerSums};
@@ -53,22 +54,23 @@ pub fn power_sums(word: &[u8]) -> [u8; 11]
     sums
 }
 
-// The eleven sums as the tables give them. A word of 63 is read where it lies.
+// The eleven sums as the tables give them. Characters that are there are read where they lie.
 fn packed_sums(word: &[u8]) -> PackedSums
     ensures { λ r. ⌜ Packed (now (word .entry)) r ⌝ }
 {
-    if word.len() == 63 {
-        return whole_sums(word);
+    if word.len() < 63 {
+        return filled_sums(word);
     }
-    filled_sums(word)
+    whole_sums(word)
 }
 
+// The part is made for the compiler: it knows its length.
 fn whole_sums(word: &[u8]) -> PackedSums
-    requires { ⌜ length (now word) ≡ 63 ⌝ }
+    requires { ⌜ 63 ≤ length (now word) ⌝ }
     ensures { λ r. ⌜ Packed (now (word .entry)) r ⌝ }
 {
-    let outer = points::values(word);
-    let middle = eights::xor_of(word) % 64;
+    let outer = points::values(&word[..63]);
+    let middle = eights::xor_of(&word[..63]) % 64;
     PackedSums { outer, middle }
 }
 

@@ -40,6 +40,7 @@ read-ring-spec =
     (λ c. search needs)
     (λ c κs. search needs)
     (λ c κs. search needs)
+    (λ c. search needs)
     (λ c κs. search needs)
     (λ c. search (written-long, needs))
     (λ c. read _ _ _ _ _ (search (not-empty, not-many, verdicts) depth 12) (search (the-line, written, verdicts, needs))))

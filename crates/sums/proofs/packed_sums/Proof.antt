@@ -1,4 +1,4 @@
--- `sums::packed_sums` meets its contract: a word of 63 characters is taken as it is, and another filled up.
+-- `sums::packed_sums` meets its contract: a word that lacks characters is filled up, and another taken as it is.
 use borrow.Author.Needs.{needs}
 use Rattle.sums.proofs.packed_sums.Statement.{statement}
 use Rattle.sums.proofs.packed_sums.Tie as tie

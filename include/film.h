@@ -25,7 +25,7 @@ extern "C" {
 /* ---- The version of this header. tools/tables writes its three numbers from version.txt. */
 
 #define FILM_VERSION_MAJOR 4
-#define FILM_VERSION_MINOR 1
+#define FILM_VERSION_MINOR 2
 #define FILM_VERSION_PATCH 0
 #define FILM_VERSION (1000000 * FILM_VERSION_MAJOR + 1000 * FILM_VERSION_MINOR + FILM_VERSION_PATCH)
 
@@ -38,7 +38,7 @@ uint32_t film_version(void);
 
 enum {
     FILM_DONE = 0,
-    FILM_INPUT_LENGTH = 1,      /* a line or ring is not 63 long, or a text is not 50 long */
+    FILM_INPUT_LENGTH = 1,      /* a line or ring is not 63 long, a text is not 50 long, or a spool's length is no multiple of 63 or is over 16,065 */
     FILM_VALUE_OVER = 2,        /* a character (a register's too) or field operand is over 63, or a data row over 127 */
     FILM_RADIUS_OVER = 3,       /* radius over 5 */
     FILM_NUMBER_OVER = 4,       /* number over 4095 */
@@ -62,6 +62,7 @@ enum {
     FILM_TEXT = 50,       /* the text of a line */
     FILM_CHARACTERS = 63, /* a line, a ring, and the output of encoding and reading them */
     FILM_STARTS = 126,    /* the output of listing a ring */
+    FILM_SPOOL = 16065,   /* the longest spool, 255 lines; the output of reading a spool is as long as the spool */
     FILM_PANEL = 294,     /* the least output of panel text, and the longest text for a panel */
     FILM_CHECKS = 11      /* a register's characters, and the checks */
 };
@@ -130,6 +131,24 @@ film_line film_read_line(const uint8_t *word, size_t word_len, uint8_t radius, u
 
 /* The line must carry the wanted number. Refusals: 1, 5, 2, 3, 4, 6, 7. */
 film_line film_read_line_wanted(const uint8_t *word, size_t word_len, uint8_t radius, uint16_t wanted, uint8_t *out, size_t out_len);
+
+/* ---- Reading a spool: up to 255 lines, one after the other, with one radius and no wanted numbers. Place i is what
+ * film_read_line answers for the i-th 63 bytes, and the i-th 63 bytes of the output are what it leaves there: a refused line
+ * leaves its own as they were, and stops no other. The places past the last line are zeros, and so are all of them where the
+ * call is refused. Zeros look like a line that was read, so go by the count of lines: lines_len / FILM_CHARACTERS. */
+
+enum {
+    FILM_PLACES = 255 /* a count: the places of an answer, and the most lines of a spool */
+};
+
+typedef struct film_spool {
+    film_line places[FILM_PLACES];
+    uint8_t answer; /* of the call; the answer for each line stands in its place */
+} film_spool;
+
+/* The output is as long as the lines; no lines are fine. Refusals: 1, 5. Refusals 2, 3 and 6 stay with each line: a radius
+ * over 5 makes the call answer 0, and each line 2 or 3. */
+film_spool film_read_spool(const uint8_t *lines, size_t lines_len, uint8_t radius, uint8_t *out, size_t out_len);
 
 /* ---- Two scans of one line. Each is read with the radius and no wanted number. The scan that is read with the smaller
  * distance is the better one, the first where they tie; where one is refused it is the other; where both are, it is

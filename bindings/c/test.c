@@ -1,12 +1,8 @@
-/* Tests of include/film.h: what each function gives, every refusal by its number, and outputs that stay as they were, to either
- * side too. It compiles as C and as C++. */
+/* Tests of include/film.h, but for spools: what each function gives, every refusal by its number, and outputs that stay as they
+ * were, to either side too. It compiles as C and as C++. */
+#include "expect.h"
 #include "film.h"
-#include <stdio.h>
 #include <string.h>
-
-static int failures = 0;
-
-#define EXPECT(holds) ((holds) ? (void)0 : (void)(failures++, printf("%s:%d: %s\n", __FILE__, __LINE__, #holds)))
 
 /* An output with bytes of 170 before, in and after it. */
 enum { SIDE = 16, ROOM = 320 };

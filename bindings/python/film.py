@@ -1,4 +1,4 @@
-"""The proved film reader: lines, rings, text for a panel and parity blocks, and the field and the register below them.
+"""The proved film reader: lines, spools of lines, rings, text for a panel and parity blocks, and the field and the register below them.
 
 Every function takes whatever bytes and numbers it is handed. It gives back what it found, or raises Refused, which says by number why not.
 A character is a byte from 0 to 63, and a line is 63 of them.
@@ -20,7 +20,7 @@ import pathlib
 from typing import NamedTuple, Optional
 
 # tools/tables writes this from version.txt, and the refusals below from refusals.txt.
-__version__ = "4.1.0"
+__version__ = "4.2.0"
 
 _u8 = ctypes.c_uint8
 _u16 = ctypes.c_uint16
@@ -29,12 +29,16 @@ _u32 = ctypes.c_uint32
 # In the place of an address: nothing was changed.
 NOWHERE = 63
 
+# The most lines of a spool, and the most bytes.
+PLACES = 255
+SPOOL = 63 * PLACES
+
 # The least output of panel text, and the longest text for a panel.
 PANEL = 294
 
 # The numbered answers, as the paper gives them; 0 is a success.
 REFUSALS = {
-    1: "a line or ring is not 63 long, or a text is not 50 long",
+    1: "a line or ring is not 63 long, a text is not 50 long, or a spool's length is no multiple of 63 or is over 16,065",
     2: "a character (a register's too) or field operand is over 63, or a data row over 127",
     3: "radius over 5",
     4: "number over 4095",
@@ -97,6 +101,10 @@ class _Line(ctypes.Structure):
     _fields_ = [("answer", _u8), ("distance", _u8), ("number", _u16), ("first", _u8), ("last", _u8)]
 
 
+class _Spool(ctypes.Structure):
+    _fields_ = [("places", _Line * PLACES), ("answer", _u8)]
+
+
 class _Choice(ctypes.Structure):
     _fields_ = [("answer", _u8), ("scan", _u8)]
 
@@ -155,6 +163,7 @@ def _load(path):
         ("checks", [_Register], _Checked),
         ("read_line", given + [_u8] + output, _Line),
         ("read_line_wanted", given + [_u8, _u16] + output, _Line),
+        ("read_spool", given + [_u8] + output, _Spool),
         ("better_scan", given + given + [_u8], _Choice),
         ("list_ring", given + [_u8] + output, _List),
         ("read_ring", given + [_u8] + output, _Ring),
@@ -209,6 +218,10 @@ def _value(result):
     return result.value
 
 
+def _line_read(result, line):
+    return LineRead(line, result.number, result.distance, result.first, result.last)
+
+
 def version() -> int:
     """The version of the library that was loaded: a million times the major number, a thousand times the minor, and the patch."""
     return _library.film_version()
@@ -240,7 +253,29 @@ def read_line(word, radius, wanted=None, out: Optional[bytearray] = None) -> Lin
         result, line = _call(_library.film_read_line, word, _byte(radius), room=63, out=out)
     else:
         result, line = _call(_library.film_read_line_wanted, word, _byte(radius), _bounded(wanted, 65535), room=63, out=out)
-    return LineRead(line, result.number, result.distance, result.first, result.last)
+    return _line_read(result, line)
+
+
+def read_spool(lines, radius, out: Optional[bytearray] = None) -> "list[LineRead | Refused]":
+    """Up to PLACES lines of 63 characters, one after the other, read in one call with one radius and no wanted numbers: a list of what read_line gives for
+    each. In place of a line that it refuses stands the Refused that it raises; this stops no other line, and leaves its own 63 bytes of an output that is
+    handed in as they were. No lines give an empty list. Only a wrong length, of the lines or of the output, makes the call itself raise.
+
+    >>> lines = [encode_line(bytes(50), number) for number in (65, 66, 67)]
+    >>> lines[1] = bytes(63)
+    >>> for i, read in enumerate(read_spool(b"".join(lines), 2)):
+    ...     if isinstance(read, Refused):
+    ...         print(f"line {i}: {read}")
+    ...     else:
+    ...         print(f"line {i}: number {read.number}")
+    line 0: number 65
+    line 1: refused (6): no line within the radius; for ring reading, an empty list
+    line 2: number 67
+    """
+    lines = _bytes(lines)
+    result, read = _call(_library.film_read_spool, lines, _byte(radius), room=len(lines), out=out)
+    starts = range(0, len(lines), 63)
+    return [Refused(place.answer) if place.answer else _line_read(place, read[at : at + 63]) for place, at in zip(result.places, starts)]
 
 
 def better_scan(first, second, radius):

@@ -99,6 +99,61 @@ class Tests(unittest.TestCase):
                 both[b] ^= b + 1
                 self.assertEqual(film.read_line(both, 5)[2:], (2, b, a))
 
+    def spool(self, count):
+        """So many lines, each with a number and a text of its own and 0 to 6 wrong characters; a few have a byte that is no character."""
+        for i in range(count):
+            line = bytearray(film.encode_line(bytes(a * i % 64 for a in range(50)), 16 * i + 5))
+            for wrong in range(i % 7):
+                line[(9 * wrong + i) % 63] ^= 1 + i % 63
+            line[i % 63] += 64 * (i % 20 == 19)
+            yield bytes(line)
+
+    def one_by_one(self, lines, radius, out):
+        """What read_line gives and raises for each line; the output is written as it writes it."""
+        for i, line in enumerate(lines):
+            own = out[63 * i : 63 * i + 63]
+            try:
+                yield film.read_line(line, radius, out=own)
+            except film.Refused as refused:
+                yield refused.number
+            out[63 * i : 63 * i + 63] = own
+
+    def test_spools(self):
+        for count, radius in itertools.product((0, 1, 2, 8, 60, film.PLACES), (0, 3, 5, 6, 9, 256)):
+            lines = list(self.spool(count))
+            out, due_out = (bytearray(i % 251 for i in range(63 * count)) for _ in range(2))
+            due = list(self.one_by_one(lines, radius, due_out))
+            for given in (None, out):
+                read = film.read_spool(b"".join(lines), radius, given)
+                self.assertIs(type(read), list)
+                self.assertEqual([one.number if isinstance(one, film.Refused) else one for one in read], due)
+            self.assertEqual(out, due_out)
+
+    def test_spool_with_one_refused(self):
+        for refused, (wrong, number) in itertools.product(range(3), ((1, 6), (64, 2))):
+            lines = [film.encode_line(bytes([9] * 50), number) for number in (7, 4095, 0)]
+            spool, out = bytearray(b"".join(lines)), bytearray(range(3 * 63))
+            spool[63 * refused + 40] ^= wrong
+            read = film.read_spool(list(spool), 0, out)
+            self.assertEqual((type(read[refused]), read[refused].number), (film.Refused, number))
+            for i, line in enumerate(lines):
+                if i != refused:
+                    self.assertEqual(read[i], (line, (7, 4095, 0)[i], 0, film.NOWHERE, film.NOWHERE))
+                self.assertEqual(out[63 * i : 63 * i + 63], bytes(range(63 * i, 63 * i + 63)) if i == refused else line)
+
+    def test_spool_refused(self):
+        self.assertEqual((film.SPOOL, film.read_spool(b"", 9), film.read_spool([], 5, bytearray())), (16065, [], []))
+        for length in (1, 62, 64, 125, 127, film.SPOOL - 1, film.SPOOL + 1, film.SPOOL + 63):
+            self.refused(1, film.read_spool, bytes(length), 5)
+            for room in (0, length):
+                self.refused(1, film.read_spool, bytes(length), 9, room=room)
+            for given in (0, 63):
+                self.refused(5, film.read_spool, bytes(given), 9, room=length)
+        self.refused(5, film.read_spool, bytes(63), 5, room=0)
+        self.refused(5, film.read_spool, bytes(film.SPOOL), 5, room=film.SPOOL - 63)
+        self.assertRaises(TypeError, film.read_spool, 63, 5)
+        self.assertRaises(ValueError, film.read_spool, Z, -1)
+
     def test_two_scans(self):
         def scan(wrong):
             return bytes(c ^ 7 * (a % 9 == 2 and a // 9 < wrong) for a, c in enumerate(Z))

@@ -1,4 +1,4 @@
-//! The proved film reader: lines, rings, text for a panel and parity blocks, and the field and the register below them.
+//! The proved film reader: lines, spools of lines, rings, text for a panel and parity blocks, and the field and the register below them.
 //!
 //! Every function takes whatever slices and numbers it is handed. It answers what it found, or the [`Refusal`] that says by number why not;
 //! then the output is as it was. A character is a byte from 0 to 63, and a line is 63 of them.
@@ -21,12 +21,14 @@
 
 mod library;
 mod refusal;
+mod spool;
 
 pub use refusal::Refusal;
+pub use spool::{read_spool, SpoolRead, PLACES, SPOOL};
 
 /// The version that this crate was made for: a million times the major number, a thousand times the minor, and the patch. It is the crate's own;
 /// tools/tables writes it from version.txt.
-pub const VERSION: u32 = 4001000;
+pub const VERSION: u32 = 4002000;
 
 /// The version of the library that is linked, written as [`VERSION`] is.
 pub fn version() -> u32 {
@@ -83,6 +85,11 @@ pub fn read_line(word: &[u8], radius: u8, wanted: Option<u16>, out: &mut [u8]) -
         None => library::read_line(word, radius, out),
         Some(number) => library::read_line_wanted(word, radius, number, out),
     };
+    line_read(r)
+}
+
+/// The line that was read, or the refusal.
+fn line_read(r: library::Line) -> Result<LineRead, Refusal> {
     answered(r.answer, LineRead { number: r.number, distance: r.distance, first: r.first, last: r.last })
 }
 

@@ -1,6 +1,6 @@
 //! The library's functions as include/film.h declares them, each with a function that calls it with slices.
 
-use crate::Register;
+use crate::{Register, PLACES};
 
 #[repr(C)]
 pub struct Element {
@@ -15,6 +15,12 @@ pub struct Line {
     pub number: u16,
     pub first: u8,
     pub last: u8,
+}
+
+#[repr(C)]
+pub struct Spool {
+    pub places: [Line; PLACES],
+    pub answer: u8,
 }
 
 #[repr(C)]
@@ -72,6 +78,7 @@ extern "C" {
     fn film_encode_line(text: *const u8, text_len: usize, number: u16, out: *mut u8, out_len: usize) -> u8;
     fn film_read_line(word: *const u8, word_len: usize, radius: u8, out: *mut u8, out_len: usize) -> Line;
     fn film_read_line_wanted(word: *const u8, word_len: usize, radius: u8, wanted: u16, out: *mut u8, out_len: usize) -> Line;
+    fn film_read_spool(lines: *const u8, lines_len: usize, radius: u8, out: *mut u8, out_len: usize) -> Spool;
     fn film_better_scan(first: *const u8, first_len: usize, second: *const u8, second_len: usize, radius: u8) -> Choice;
     fn film_list_ring(ring: *const u8, ring_len: usize, radius: u8, out: *mut u8, out_len: usize) -> List;
     fn film_read_ring(ring: *const u8, ring_len: usize, radius: u8, out: *mut u8, out_len: usize) -> Ring;
@@ -112,6 +119,10 @@ pub fn read_line(word: &[u8], radius: u8, out: &mut [u8]) -> Line {
 
 pub fn read_line_wanted(word: &[u8], radius: u8, wanted: u16, out: &mut [u8]) -> Line {
     unsafe { film_read_line_wanted(word.as_ptr(), word.len(), radius, wanted, out.as_mut_ptr(), out.len()) }
+}
+
+pub fn read_spool(lines: &[u8], radius: u8, out: &mut [u8]) -> Spool {
+    unsafe { film_read_spool(lines.as_ptr(), lines.len(), radius, out.as_mut_ptr(), out.len()) }
 }
 
 pub fn better_scan(first: &[u8], second: &[u8], radius: u8) -> Choice {

@@ -11,8 +11,11 @@ use Rattle.encoder.specs.Promises as Encoder
 use Rattle.encoder.proofs.Theorems as encoder
 use Rattle.encoder.proofs.Running.{one-stepping, one-asking}
 use Rattle.line.specs.declared.Wanted.{Wanted}
+use Rattle.line.specs.declared.PlainReading.{PlainReading}
 use Rattle.line.specs.Promises as Line
-use Rattle.line.proofs.Theorems.{one-within}
+use Rattle.line.proofs.Theorems.{one-within, one-plain-reading}
+use Rattle.spool.specs.Promises as Spool
+use Rattle.spool.proofs.Theorems.{same-spool}
 use Rattle.scans.specs.Promises as Scans
 use Rattle.scans.proofs.Theorems.{one-choice}
 use Rattle.ring.specs.Ring.{placed}
@@ -25,7 +28,7 @@ use Rattle.panel.proofs.Rings.{same-ring}
 use Rattle.block.specs.Promises as Block
 use Rattle.block.proofs.Results.{one-read-as, one-encoded-as}
 use Rattle.film.specs.declared.FilmElement.{FilmElement}
-use Rattle.film.specs.declared.FilmLine.{FilmLine}
+use Rattle.film.specs.declared.FilmSpool.{FilmSpool}
 use Rattle.film.specs.declared.FilmChoice.{FilmChoice}
 use Rattle.film.specs.declared.FilmList.{FilmList}
 use Rattle.film.specs.declared.FilmRing.{FilmRing}
@@ -34,7 +37,7 @@ use Rattle.film.specs.declared.FilmBlock.{FilmBlock}
 use Rattle.film.specs.declared.FilmRegister.{FilmRegister}
 use Rattle.film.specs.declared.FilmStepped.{FilmStepped}
 use Rattle.film.specs.declared.FilmChecked.{FilmChecked}
-use Rattle.film.specs.Numbers.{elementNumbers, lineNumbers, choiceNumbers, listNumbers, ringNumbers, panelNumbers, blockNumbers, registerOf, checkNumbers}
+use Rattle.film.specs.Numbers.{elementNumbers, choiceNumbers, listNumbers, ringNumbers, panelNumbers, blockNumbers, registerOf, checkNumbers}
 
 -- ---- the field
 
@@ -76,20 +79,19 @@ one-check r a b p q =
 
 -- ---- reading a line
 
-one-line : (r s : FilmLine) → lineNumbers r ≡ lineNumbers s → r ≡ s
-one-line r s e = ap (λ (l : List ℕ). record { answer = getD l 0 0; distance = getD l 2 0; number = getD l 1 0; first = getD l 3 0; last = getD l 4 0 }) e
+pub one-line-read : (w : List ℕ) (t : ℕ) (wanted : Wanted) (old : List ℕ) (r s : PlainReading) (x y : List ℕ)
+    → Line.Reads w t wanted old (Line.plainNumbers r) x → Line.Reads w t wanted old (Line.plainNumbers s) y → (r ≡ s) × (x ≡ y)
+one-line-read = one-plain-reading
 
-pub one-line-read : (w : List ℕ) (t : ℕ) (wanted : Wanted) (old : List ℕ) (r s : FilmLine) (x y : List ℕ)
-    → Line.Reads w t wanted old (lineNumbers r) x → Line.Reads w t wanted old (lineNumbers s) y → (r ≡ s) × (x ≡ y)
-unfolding Line.Reads
-one-line-read w t wanted old r s x y p q =
-    let e =
-    one-result (Line.readingTests w t wanted (length old)) (Line.ReadAs t w) 4
-    (λ passed f g x y a b.
-    let same : x ≡ y = one-within t w x y (passed .0) (passed .1 .1 .1 .0) (a .0) (b .0) in
-    (a .1 ∙ ap (Line.told w) same ∙ sym (b .1), same))
-    old (lineNumbers r) (lineNumbers s) x y p q in
-    (one-line r s (e .0), e .1)
+-- ---- reading a spool
+
+pub one-spool-read : (lines : List ℕ) (t : ℕ) (old : List ℕ) (r s : FilmSpool) (x y : List ℕ)
+    → Spool.Spools lines t old (r .answer ∷ []) (Spool.leftOf (r .places) x) → Spool.Spools lines t old (s .answer ∷ []) (Spool.leftOf (s .places) y) → (r ≡ s) × (x ≡ y)
+one-spool-read lines t old r s x y p q =
+    let e = same-spool lines t old (r .answer ∷ []) (s .answer ∷ []) (Spool.leftOf (r .places) x) (Spool.leftOf (s .places) y) p q in (
+      ap₂ (λ (p : List PlainReading) (n : ℕ). record { places = p; answer = n }) (ap (λ (l : Spool.Left). l .places) (e .1)) (ap (λ (l : List ℕ). getD l 0 0) (e .0)),
+      ap (λ (l : Spool.Left). l .output) (e .1),
+    )
 
 -- ---- two scans
 

@@ -3,7 +3,6 @@ use mathlib.Core.List.{List, [], _∷_}
 use Prim.Native.Nat.{ℕ}
 use Rattle.encoder.specs.declared.Register.{Register}
 use Rattle.film.specs.declared.FilmElement.{FilmElement}
-use Rattle.film.specs.declared.FilmLine.{FilmLine}
 use Rattle.film.specs.declared.FilmChoice.{FilmChoice}
 use Rattle.film.specs.declared.FilmList.{FilmList}
 use Rattle.film.specs.declared.FilmRing.{FilmRing}
@@ -15,17 +14,13 @@ use Rattle.film.specs.declared.FilmChecked.{FilmChecked}
 abbrev pub elementNumbers : FilmElement → List ℕ
 elementNumbers r = r .answer ∷ r .value ∷ []
 
--- the number stands before the distance in the promise of reading a line
-abbrev pub lineNumbers : FilmLine → List ℕ
-lineNumbers r = r .answer ∷ r .number ∷ r .distance ∷ r .first ∷ r .last ∷ []
-
 abbrev pub choiceNumbers : FilmChoice → List ℕ
 choiceNumbers r = r .answer ∷ r .scan ∷ []
 
 abbrev pub listNumbers : FilmList → List ℕ
 listNumbers r = r .answer ∷ r .count ∷ []
 
--- and in that of reading a ring the start stands before both
+-- in the promise of reading a ring the start stands first, and the number before the distance
 abbrev pub ringNumbers : FilmRing → List ℕ
 ringNumbers r = r .answer ∷ r .start ∷ r .number ∷ r .distance ∷ r .first ∷ r .last ∷ []
 

@@ -8,9 +8,10 @@ ghost use Rattle.line.specs.declared.Wanted.the-variants.{Any, Number};
 ghost use Rattle.ring.specs.Promises as Ring;
 ghost use Rattle.block.specs.Promises as Block;
 ghost use Rattle.scans.specs.Promises as Scans;
+ghost use Rattle.spool.specs.Promises as Spool;
 ghost use Rattle.panel.specs.Promises as Panel;
 ghost use Rattle.film.specs.Version.{version};
-ghost use Rattle.film.specs.Numbers.{elementNumbers, lineNumbers, choiceNumbers, listNumbers, ringNumbers, panelNumbers, blockNumbers, registerOf, checkNumbers};
+ghost use Rattle.film.specs.Numbers.{elementNumbers, choiceNumbers, listNumbers, ringNumbers, panelNumbers, blockNumbers, registerOf, checkNumbers};
 use block::BlockEncoding;
 use block::BlockReading;
 use encoder::CheckAnswer;
@@ -18,15 +19,16 @@ use encoder::LineEncoding;
 use encoder::Register;
 use encoder::StepAnswer;
 use field::Element;
-use line::LineReading;
+use line::PlainReading;
 use line::Wanted;
 use panel::PanelText;
 use ring::RingListing;
 use ring::RingReading;
 use scans::Choice;
+use spool::SpoolAnswer;
 
 // The library's version: a million times the major number, a thousand times the minor, and the patch. tools/tables writes it from version.txt.
-const VERSION: u32 = 4001000;
+const VERSION: u32 = 4002000;
 
 // The version of the library that is linked.
 #[no_mangle]
@@ -43,14 +45,11 @@ pub struct FilmElement {
     pub value: u8,
 }
 
-// The answer of reading a line, its distance, its number, and the first and the last changed address.
+// What reading each line of a spool answers, line by line, with zeros past the last line and in a refusal; and the answer of the call.
 #[repr(C)]
-pub struct FilmLine {
+pub struct FilmSpool {
+    pub places: [PlainReading; 255],
     pub answer: u8,
-    pub distance: u8,
-    pub number: u16,
-    pub first: u8,
-    pub last: u8,
 }
 
 // The answer of choosing between two scans, and the scan: 1 the first, 2 the second, 0 neither.
@@ -165,39 +164,12 @@ pub extern "C" fn film_encode_line(text: &[u8], number: u16, out: &mut [u8]) -> 
     }
 }
 
-// The answer of reading a line in the library's form.
-fn line_read(given: LineReading) -> FilmLine
-    ensures { λ r. ⌜ lineNumbers r ≡ Line.readingNumbers given ⌝ }
-{
-    match given {
-        LineReading::Line {
-            number,
-            distance,
-            first,
-            last,
-        } => FilmLine {
-            answer: 0,
-            distance: distance,
-            number: number, // at an even place: no padding stands before it
-            first: first,
-            last: last,
-        },
-        LineReading::Refused(why) => FilmLine {
-            answer: refusal::number(why),
-            distance: 0,
-            number: 0,
-            first: 0,
-            last: 0,
-        },
-    }
-}
-
 // Reads a line with no wanted number.
 #[no_mangle]
-pub extern "C" fn film_read_line(word: &[u8], radius: u8, out: &mut [u8]) -> FilmLine
-    ensures { λ r. ⌜ Line.Reads (now (word .entry)) radius Any (now (out .entry)) (lineNumbers r) (now (out .exit)) ⌝ }
+pub extern "C" fn film_read_line(word: &[u8], radius: u8, out: &mut [u8]) -> PlainReading
+    ensures { λ r. ⌜ Line.Reads (now (word .entry)) radius Any (now (out .entry)) (Line.plainNumbers r) (now (out .exit)) ⌝ }
 {
-    line_read(line::read_line(word, radius, Wanted::Any, out))
+    line::plain(line::read_line(word, radius, Wanted::Any, out))
 }
 
 // Reads a line that must carry the wanted number.
@@ -207,10 +179,35 @@ pub extern "C" fn film_read_line_wanted(
     radius: u8,
     wanted: u16,
     out: &mut [u8],
-) -> FilmLine
-    ensures { λ r. ⌜ Line.Reads (now (word .entry)) radius (Number wanted) (now (out .entry)) (lineNumbers r) (now (out .exit)) ⌝ }
+) -> PlainReading
+    ensures { λ r. ⌜ Line.Reads (now (word .entry)) radius (Number wanted) (now (out .entry)) (Line.plainNumbers r) (now (out .exit)) ⌝ }
 {
-    line_read(line::read_line(word, radius, Wanted::Number(wanted), out))
+    line::plain(line::read_line(word, radius, Wanted::Number(wanted), out))
+}
+
+// The number of the answer of reading a spool.
+fn spool_number(given: SpoolAnswer) -> u8
+    ensures { λ r. ⌜ r ∷ [] ≡ Spool.spoolNumbers given ⌝ }
+{
+    match given {
+        SpoolAnswer::Read => 0,
+        SpoolAnswer::Refused(why) => refusal::number(why),
+    }
+}
+
+// Reads a spool: up to 255 lines, each by itself.
+#[no_mangle]
+pub extern "C" fn film_read_spool(lines: &[u8], radius: u8, out: &mut [u8]) -> FilmSpool
+    ensures { λ r. ⌜ Spool.Spools (now (lines .entry)) radius (now (out .entry)) (r .answer ∷ []) (Spool.leftOf (r .places) (now (out .exit))) ⌝ }
+{
+    let spooled = spool::read_spool(lines, radius, out);
+    let given = spooled.answer;
+    let answer = spool_number(given);
+    let places = spooled.places;
+    FilmSpool {
+        places: places,
+        answer: answer, // that of the call: each place has its own
+    }
 }
 
 // Chooses the better of two scans.

@@ -19,7 +19,8 @@ use Rattle.line.specs.declared.Wanted.{Wanted}
 use Rattle.line.specs.declared.Wanted.the-variants as W
 use Rattle.line.specs.declared.LineReading.{LineReading}
 use Rattle.line.specs.declared.LineReading.the-variants as R
-use Rattle.line.specs.Promises.{readingNumbers, Within, Readable, readingTests, told, ReadAs, Reads}
+use Rattle.line.specs.declared.PlainReading.{PlainReading}
+use Rattle.line.specs.Promises.{readingNumbers, plainNumbers, Within, Readable, readingTests, told, ReadAs, Reads}
 use Rattle.line.specs.Inside.{NearestLine, Writes}
 use Rattle.line.proofs.Reading.{refused, read}
 
@@ -27,7 +28,7 @@ use Rattle.line.proofs.Reading.{refused, read}
 pub one-within : (t : ℕ) (w l m : List ℕ) → length w ≡ 63 → t ≤ 5 → Within t w l → Within t w m → l ≡ m
 one-within t w l m long small p q = one-line-near w l m t long small (p .line) (q .line) (p .near) (q .near)
 
--- the numbers fix the reading
+-- the numbers fix the reading, and the plain one
 one-line-reading : (r s : LineReading) → readingNumbers r ≡ readingNumbers s → r ≡ s
 one-line-reading (R.Line n d f t) (R.Line m e g u) q =
     ap₂ (λ (x y : ℕ). R.Line x y f t) (ap (λ (l : List ℕ). getD l 1 0) q) (ap (λ (l : List ℕ). getD l 2 0) q)
@@ -36,19 +37,29 @@ one-line-reading (R.Line n d f t) (R.Refused s) q = absurd (refusal-positive s (
 one-line-reading (R.Refused r) (R.Line m e g u) q = absurd (refusal-positive r (ap (λ (l : List ℕ). getD l 0 0) q))
 one-line-reading (R.Refused r) (R.Refused s) q = ap R.Refused (one-refusal r s (ap (λ (l : List ℕ). getD l 0 0) q))
 
+pub one-plain : (r s : PlainReading) → plainNumbers r ≡ plainNumbers s → r ≡ s
+one-plain r s e = ap (λ (l : List ℕ). record { answer = getD l 0 0; distance = getD l 2 0; number = getD l 1 0; first = getD l 3 0; last = getD l 4 0 }) e
+
 module _ (w : List ℕ) (t : ℕ) (wanted : Wanted) where
   one-read-as : length w ≡ 63 → t ≤ 5 → (f g x y : List ℕ) → ReadAs t w f x → ReadAs t w g y → (f ≡ g) × (x ≡ y)
   one-read-as long small f g x y p q =
       let e : x ≡ y = one-within t w x y long small (p .0) (q .0) in
       (p .1 ∙ ap (told w) e ∙ sym (q .1), e)
 
-  -- any two results that reading allows are equal
+  -- any two results that reading allows are equal: their numbers, and what they leave
+  pub same-result : (old : List ℕ) (m n : List ℕ) (x y : List ℕ) → Reads w t wanted old m x → Reads w t wanted old n y → (m ≡ n) × (x ≡ y)
+  unfolding Reads
+  same-result old = one-result (readingTests w t wanted (length old)) (ReadAs t w) 4 (λ passed. one-read-as (passed .0) (passed .1 .1 .1 .0)) old
+
+  -- and so any two readings
   pub one-reading : (old : List ℕ) (r s : LineReading) (x y : List ℕ) → Reads w t wanted old (readingNumbers r) x → Reads w t wanted old (readingNumbers s) y
       → (r ≡ s) × (x ≡ y)
-  unfolding Reads
-  one-reading old r s x y p q =
-      let e = one-result (readingTests w t wanted (length old)) (ReadAs t w) 4 (λ passed. one-read-as (passed .0) (passed .1 .1 .1 .0)) old (readingNumbers r) (readingNumbers s) x y p q in
-      (one-line-reading r s (e .0), e .1)
+  one-reading old r s x y p q = let e = same-result old (readingNumbers r) (readingNumbers s) x y p q in (one-line-reading r s (e .0), e .1)
+
+  -- plain ones too
+  pub one-plain-reading : (old : List ℕ) (r s : PlainReading) (x y : List ℕ) → Reads w t wanted old (plainNumbers r) x → Reads w t wanted old (plainNumbers s) y
+      → (r ≡ s) × (x ≡ y)
+  one-plain-reading old r s x y p q = let e = same-result old (plainNumbers r) (plainNumbers s) x y p q in (one-plain r s (e .0), e .1)
 
   -- and so are any two answers, whatever lay in outputs of one length
   pub same-reading : (old other : List ℕ) (r s : LineReading) (x y : List ℕ) → length old ≡ length other → Reads w t wanted old (readingNumbers r) x
@@ -78,10 +89,8 @@ module _ (w : List ℕ) (t : ℕ) (old : List ℕ) (long : length w ≡ 63) (roo
   reads-none none = refused w t W.Any old 5 (long then room then characters then small then tt then denied none)
 
   pub refused-none : (x : List ℕ) → Reads w t W.Any old (6 ∷ 0 ∷ 0 ∷ 0 ∷ 0 ∷ []) x → Readable t w → ⊥
-  unfolding Reads
   refused-none x q (l, p) =
-      let e = one-result (readingTests w t W.Any (length old)) (ReadAs t w) 4 (λ passed. one-read-as w t W.Any (passed .0) (passed .1 .1 .1 .0)) old
-      (6 ∷ 0 ∷ 0 ∷ 0 ∷ 0 ∷ []) (0 ∷ told w l) x l q (reads-line l p) in
+      let e = same-result w t W.Any old (6 ∷ 0 ∷ 0 ∷ 0 ∷ 0 ∷ []) (0 ∷ told w l) x l q (reads-line l p) in
       let z : _≡_ {A = ℕ} 6 0 = ap (λ (k : List ℕ). getD k 0 0) (e .0) in
       omega arith
 

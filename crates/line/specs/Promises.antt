@@ -11,11 +11,16 @@ use Rattle.line.specs.declared.Wanted.{Wanted}
 use Rattle.line.specs.declared.Wanted.the-variants as W
 use Rattle.line.specs.declared.LineReading.{LineReading}
 use Rattle.line.specs.declared.LineReading.the-variants as R
+use Rattle.line.specs.declared.PlainReading.{PlainReading}
 
 -- the numbers of a reading: the answer, the line's number, its distance from the input, and the first and the last changed address
 abbrev pub readingNumbers : LineReading → List ℕ
 readingNumbers (R.Line n d first last) = 0 ∷ n ∷ d ∷ first ∷ last ∷ []
 readingNumbers (R.Refused r) = numberOf r ∷ 0 ∷ 0 ∷ 0 ∷ 0 ∷ []
+
+-- and of a plain one
+abbrev pub plainNumbers : PlainReading → List ℕ
+plainNumbers r = r .answer ∷ r .number ∷ r .distance ∷ r .first ∷ r .last ∷ []
 
 -- l is a line within t of w
 pub record Within (t : ℕ) (w l : List ℕ) : Type 0 where

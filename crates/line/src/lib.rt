@@ -4,7 +4,7 @@ ghost use Prim.Native.Nat.{_+_, _*_, _%_};
 ghost use lib.ListN.{getD};
 ghost use Rattle.refusal.specs.Promise.{Tells};
 ghost use Rattle.code.specs.Word.{number};
-ghost use Rattle.line.specs.Promises.{readingNumbers, Possible, Reads};
+ghost use Rattle.line.specs.Promises.{readingNumbers, plainNumbers, Possible, Reads};
 ghost use Rattle.line.specs.Inside.{NearestLine, IsWanted, Writes};
 use mender::Mended;
 use refusal::Refusal;
@@ -24,6 +24,16 @@ pub enum LineReading {
         last: u8,
     },
     Refused(Refusal),
+}
+
+// A reading in plain numbers, as C and the places of a spool hold it. In a refusal all but the answer are 0.
+#[repr(C)]
+pub struct PlainReading {
+    pub answer: u8,
+    pub distance: u8,
+    pub number: u16,
+    pub first: u8,
+    pub last: u8,
 }
 
 // Reads a line: writes the line within the radius of the word.
@@ -60,6 +70,33 @@ pub fn read_line(word: &[u8], radius: u8, wanted: Wanted, output: &mut [u8]) -> 
         distance: found.weight,
         first: found.first,
         last: found.last,
+    }
+}
+
+// A reading in plain numbers.
+pub fn plain(reading: LineReading) -> PlainReading
+    ensures { λ r. ⌜ plainNumbers r ≡ readingNumbers reading ⌝ }
+{
+    match reading {
+        LineReading::Line {
+            number,
+            distance,
+            first,
+            last,
+        } => PlainReading {
+            answer: 0,
+            distance: distance,
+            number: number, // at an even place: no padding stands before it
+            first: first,
+            last: last,
+        },
+        LineReading::Refused(why) => PlainReading {
+            answer: refusal::number(why),
+            distance: 0,
+            number: 0,
+            first: 0,
+            last: 0,
+        },
     }
 }
 

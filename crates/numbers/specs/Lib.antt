@@ -1,3 +1,4 @@
--- The exclusive or of many numbers, and lists of numbers below a bound.
+-- The exclusive or of many numbers, lists of numbers below a bound, and parts of a list.
 pub mod Total
 pub mod Below
+pub mod Parts

@@ -4,7 +4,7 @@ use Rattle.film.proofs.film_read_line_wanted.Statement.{statement}
 use Rattle.film.proofs.film_read_line_wanted.Tie as tie
 
 returns : tie.Need-returns
-returns c = rw (c .line-read .ensures) (c .before .before .before .read-line .ensures)
+returns c = rw (c .plain .ensures) (c .before .before .before .read-line .ensures)
 
 pub film-read-line-wanted-spec : {M : Type 1} → statement M
 film-read-line-wanted-spec =

@@ -1,0 +1,65 @@
+/* What has to hold, which answers each call can give, and how often it gave them. */
+#ifndef ANSWERS_H
+#define ANSWERS_H
+
+#include "film.h"
+#include <stdint.h>
+#include <stdio.h>
+#include <stdlib.h>
+
+#define HOLDS(fact) ((fact) ? (void)0 : fail(__FILE__, __LINE__, #fact))
+
+static void fail(const char *file, int line, const char *fact) {
+    fprintf(stderr, "%s:%d: does not hold: %s\n", file, line, fact);
+    abort();
+}
+
+/* ---- Which answers each call can give, and how often it gave them. */
+
+enum {
+    SUM, PRODUCT, QUOTIENT, ENCODE_LINE, STEP, CHECKS, READ_LINE, READ_LINE_WANTED, LIST_RING, READ_RING, ENCODE_BLOCK, READ_BLOCK, BETTER_SCAN,
+    PANEL_TEXT, PANEL_RING, CALLS
+};
+
+static const char *const names[CALLS] = {"sum", "product", "quotient", "encode_line", "step", "checks", "read_line", "read_line_wanted",
+                                         "list_ring", "read_ring", "encode_block", "read_block", "better_scan", "panel_text", "panel_ring"};
+
+/* Bit n stands for answer n. */
+#define CAN(n) (UINT64_C(1) << (n))
+_Static_assert(FILM_LAST_REFUSAL < 64, "an answer for each bit");
+static const uint64_t can_give[CALLS] = {
+    CAN(0) | CAN(2),
+    CAN(0) | CAN(2),
+    CAN(0) | CAN(2) | CAN(13),
+    CAN(0) | CAN(1) | CAN(5) | CAN(2) | CAN(4),
+    CAN(0) | CAN(11) | CAN(2),
+    CAN(0) | CAN(11) | CAN(12) | CAN(2),
+    CAN(0) | CAN(1) | CAN(5) | CAN(2) | CAN(3) | CAN(6),
+    CAN(0) | CAN(1) | CAN(5) | CAN(2) | CAN(3) | CAN(4) | CAN(6) | CAN(7),
+    CAN(0) | CAN(1) | CAN(5) | CAN(2) | CAN(3),
+    CAN(0) | CAN(1) | CAN(5) | CAN(2) | CAN(3) | CAN(6) | CAN(10),
+    CAN(0) | CAN(8) | CAN(5) | CAN(2),
+    CAN(0) | CAN(8) | CAN(5) | CAN(9),
+    CAN(0) | CAN(1) | CAN(2) | CAN(3) | CAN(6),
+    CAN(0) | CAN(1) | CAN(5) | CAN(2) | CAN(14) | CAN(15),
+    CAN(0) | CAN(1) | CAN(5) | CAN(2) | CAN(3) | CAN(6) | CAN(10) | CAN(14) | CAN(15),
+};
+
+static unsigned long given[CALLS][FILM_LAST_REFUSAL + 1];
+
+static void gave(int call, int answer) {
+    HOLDS(answer <= FILM_LAST_REFUSAL && (can_give[call] >> answer & 1));
+    given[call][answer]++;
+}
+
+static void print_given(void) {
+    for (int call = 0; call < CALLS; call++) {
+        fprintf(stderr, "answers %s:", names[call]);
+        for (int n = 0; n <= FILM_LAST_REFUSAL; n++)
+            if (can_give[call] >> n & 1)
+                fprintf(stderr, " %d %lu,", n, given[call][n]);
+        fprintf(stderr, "\n");
+    }
+}
+
+#endif

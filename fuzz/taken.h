@@ -1,0 +1,84 @@
+/* What the fuzzer's bytes mean: numbers, lengths, lines and words. Past their end they are 0. */
+#ifndef TAKEN_H
+#define TAKEN_H
+
+#include "film.h"
+#include "rules.h"
+#include <stddef.h>
+#include <stdint.h>
+#include <string.h>
+
+enum { LONGEST = 600 };
+
+static const uint8_t *next;
+static size_t left;
+
+static uint8_t take(void) { return left == 0 ? 0 : (left--, *next++); }
+static uint16_t take_two(void) { uint8_t high = take(); return (uint16_t)(high * 256 + take()); }
+
+/* The length that is stated, three times in four. */
+static size_t take_length(size_t stated) {
+    uint8_t how = take();
+    if (how < 192)
+        return stated;
+    if (how < 224)
+        return how - 192;
+    if (how < 240)
+        return how & 1 || stated == 0 ? stated + 1 : stated - 1;
+    return take_two() % LONGEST;
+}
+
+/* A line of any text and number. */
+static void take_line(uint8_t *line) {
+    uint16_t number = take_two() % 4096;
+    line[50] = (uint8_t)(number / 64), line[51] = number % 64;
+    for (int a = 0; a < 50; a++)
+        line[a] = take() & 63;
+    complete(line);
+}
+
+/* A word of 63 bytes and the line it was made from, if it was: any bytes, any characters, or a line with characters changed. Two in
+ * three are lines. At times one byte is set to anything. */
+typedef struct {
+    uint8_t word[LONGEST], line[63];
+    int is_made;
+} made;
+
+static made take_word(void) {
+    made m = {{0}, {0}, 0};
+    uint8_t shape = take(), wrong = take() % 9, poke = take();
+    if (shape % 3 == 0) {
+        for (int a = 0; a < 63; a++)
+            m.word[a] = shape & 64 ? take() : take() & 63;
+    } else {
+        uint8_t places[8], values[8];
+        for (int i = 0; i < wrong; i++)
+            places[i % 8] = take() % 63, values[i % 8] = take() & 63;
+        take_line(m.line);
+        m.is_made = 1;
+        memcpy(m.word, m.line, 63);
+        for (int i = 0; i < wrong; i++)
+            m.word[places[i % 8]] ^= values[i % 8];
+    }
+    if (poke > 239)
+        m.word[poke % 63] = take();
+    return m;
+}
+
+/* A kind of text: plain half of the time, a template in a quarter of it. */
+static uint8_t take_kind(uint8_t mask) {
+    uint8_t how = take();
+    return how < 128 ? PLAIN : how < 192 ? TEMPLATE : take() & mask;
+}
+
+/* Gives the line of a made word another kind of text; the same characters are changed in it as before. */
+static void set_kind(made *m, uint8_t kind) {
+    for (int a = 0; a < FILM_CHARACTERS; a++)
+        m->word[a] ^= m->line[a];
+    m->line[0] = kind;
+    complete(m->line);
+    for (int a = 0; a < FILM_CHARACTERS; a++)
+        m->word[a] ^= m->line[a];
+}
+
+#endif

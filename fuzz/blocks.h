@@ -41,7 +41,7 @@ static void block_calls(void) {
     for (size_t i = 0; i <= length; i++)
         rows[i] = i < length ? data[i] : take();
     if (answer == 0) {
-        memcpy(rows, output.page + output.from, length + 1);
+        memcpy(rows, bytes_of(&output), length + 1);
         HOLDS(wrong_rows(rows, length + 1, &row, &columns) == 0 && columns == 0);
         for (size_t i = 0; i < length; i++)
             HOLDS((rows[i] & 127) == data[i]);
@@ -67,7 +67,7 @@ static void block_calls(void) {
     if (r.answer == 0) {
         if (faults == 1)
             rows[row] ^= columns;
-        HOLDS(memcmp(rows, output.page + output.from, height) == 0);
+        HOLDS(memcmp(rows, bytes_of(&output), height) == 0);
     }
     free(data);
     free(rows);

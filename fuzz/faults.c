@@ -7,6 +7,7 @@
 film_element __real_film_product(uint8_t u, uint8_t v);
 film_element __real_film_quotient(uint8_t u, uint8_t v);
 film_line __real_film_read_line(const uint8_t *word, size_t word_len, uint8_t radius, uint8_t *out, size_t out_len);
+film_spool __real_film_read_spool(const uint8_t *lines, size_t lines_len, uint8_t radius, uint8_t *out, size_t out_len);
 film_choice __real_film_better_scan(const uint8_t *first, size_t first_len, const uint8_t *second, size_t second_len, uint8_t radius);
 film_list __real_film_list_ring(const uint8_t *ring, size_t ring_len, uint8_t radius, uint8_t *out, size_t out_len);
 film_panel __real_film_panel_text(const uint8_t *text, size_t text_len, uint8_t *out, size_t out_len);
@@ -47,6 +48,38 @@ film_line __wrap_film_read_line(const uint8_t *word, size_t word_len, uint8_t ra
 #elif FAULT == 12 /* the last changed address is that of the last but one */
     if (r.answer == FILM_DONE && r.distance == 2)
         r.last = r.first;
+#endif
+    return r;
+}
+
+film_spool __wrap_film_read_spool(const uint8_t *lines, size_t lines_len, uint8_t radius, uint8_t *out, size_t out_len) {
+#if FAULT == 19 /* the lines after the first that is refused are not read: what the output held stays there */
+    static uint8_t old[FILM_SPOOL];
+    if (out_len != 0 && out_len <= FILM_SPOOL)
+        memcpy(old, out, out_len);
+#elif FAULT == 22 /* what is over after the last whole line is passed over */
+    if (lines_len < FILM_SPOOL && out_len == lines_len)
+        lines_len = out_len -= lines_len % FILM_CHARACTERS;
+#endif
+    film_spool r = __real_film_read_spool(lines, lines_len, radius, out, out_len);
+    size_t count = r.answer == FILM_DONE ? lines_len / FILM_CHARACTERS : 0, refused = 0;
+    while (refused < count && r.places[refused].answer == FILM_DONE)
+        refused++;
+#if FAULT == 18 /* a refused line's bytes are cleared */
+    if (refused < count)
+        memset(out + refused * FILM_CHARACTERS, 0, FILM_CHARACTERS);
+#elif FAULT == 19
+    for (size_t i = refused + 1; i < count; i++) {
+        memcpy(out + i * FILM_CHARACTERS, old + i * FILM_CHARACTERS, FILM_CHARACTERS);
+        memset(&r.places[i], 0, sizeof r.places[i]);
+    }
+#elif FAULT == 20 /* the places past the last line hold what stood there */
+    memset(&r.places[count], 170, sizeof r.places - count * sizeof r.places[0]);
+#elif FAULT == 21 /* the call is refused for the radius */
+    if (r.answer == FILM_DONE && radius > 5) {
+        memset(&r, 0, sizeof r);
+        r.answer = FILM_RADIUS_OVER;
+    }
 #endif
     return r;
 }

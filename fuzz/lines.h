@@ -66,7 +66,7 @@ static void read_line_calls(void) {
     if (w.answer != 0)
         HOLDS(w.number == 0 && w.distance == 0 && w.first == 0 && w.last == 0);
     else
-        HOLDS(memcmp(&w, &r, sizeof r) == 0 && memcmp(output.page + output.from, line, 63) == 0);
+        HOLDS(memcmp(&w, &r, sizeof r) == 0 && memcmp(bytes_of(&output), line, 63) == 0);
 }
 
 /* Two scans, of one line half of the time: each is read first, and the better is the one that is read with the smaller distance. */

@@ -55,7 +55,7 @@ static void panel_ring_call(void) {
     uint8_t *out = lend(&output, NULL, sizeof line, place);
     film_ring read = film_read_ring(lend(&input, ring.word, length, place >> 2), length, radius, out, sizeof line);
     gave(READ_RING, read.answer);
-    memcpy(line, output.page + output.from, sizeof line);
+    memcpy(line, bytes_of(&output), sizeof line);
     int due = length != FILM_CHARACTERS ? 1 : room < FILM_PANEL ? 5 : read.answer;
     if (due == 0)
         due = panel_text(line, FILM_TEXT, room, place).answer;

@@ -1,6 +1,6 @@
 /* The fuzz target: every function of include/film.h on hostile bytes, each answer and each output byte held against plain C.
- * rules.h has the rules; the calls stand in encoding.h, lines.h, rings.h, panel.h and blocks.h, and each works out what it can of
- * the answer first, in the order of the refusals.
+ * rules.h has the rules; the calls stand in encoding.h, lines.h, spool.h, rings.h, panel.h and blocks.h, and each works out
+ * what it can of the answer first, in the order of the refusals.
  *
  * fuzz/run builds it with libFuzzer and the address and undefined-behaviour sanitizers, and runs it. The library is linked as it
  * is proved, so the sanitizers do not see into it. Its slices therefore lie against pages that nobody may touch: the input ends
@@ -15,22 +15,26 @@
 #include "panel.h"
 #include "rings.h"
 #include "rules.h"
+#include "spool.h"
 #include "taken.h"
 
 int LLVMFuzzerInitialize(int *argc, char ***argv) {
     (void)argc, (void)argv;
     HOLDS(film_version() == FILM_VERSION);
     make_powers();
-    prepare(&input, PROT_READ);
-    prepare(&second_input, PROT_READ);
-    prepare(&output, PROT_READ | PROT_WRITE);
+    prepare(&input, PAGE, PROT_READ);
+    prepare(&second_input, PAGE, PROT_READ);
+    prepare(&output, PAGE, PROT_READ | PROT_WRITE);
+    prepare(&spool_input, MOST_BYTES, PROT_READ);
+    prepare(&spool_output, MOST_BYTES, PROT_READ | PROT_WRITE);
+    prepare(&spool_answer, PAGE, PROT_READ | PROT_WRITE);
     atexit(print_given);
     return 0;
 }
 
 int LLVMFuzzerTestOneInput(const uint8_t *data, size_t size) {
-    static void (*const calls[])(void) = {field_calls, register_calls, encode_line_call, read_line_calls, scan_calls,
-                                          merged_call, moved_call, ring_calls, panel_text_call, panel_ring_call, block_calls};
+    static void (*const calls[])(void) = {field_calls, register_calls, encode_line_call, read_line_calls, scan_calls, merged_call,
+                                          moved_call, spool_call, ring_calls, panel_text_call, panel_ring_call, block_calls};
     next = data;
     left = size;
     calls[take() % (sizeof calls / sizeof calls[0])]();

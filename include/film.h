@@ -132,10 +132,10 @@ film_line film_read_line(const uint8_t *word, size_t word_len, uint8_t radius, u
 /* The line must carry the wanted number. Refusals: 1, 5, 2, 3, 4, 6, 7. */
 film_line film_read_line_wanted(const uint8_t *word, size_t word_len, uint8_t radius, uint16_t wanted, uint8_t *out, size_t out_len);
 
-/* ---- Reading a spool: up to 255 lines, one after the other, with one radius and no wanted numbers. Place i is what
- * film_read_line answers for the i-th 63 bytes, and the i-th 63 bytes of the output are what it leaves there: a refused line
- * leaves its own as they were, and stops no other. The places past the last line are zeros, and so are all of them where the
- * call is refused. Zeros look like a line that was read, so go by the count of lines: lines_len / FILM_CHARACTERS. */
+/* ---- Reading a spool: up to 255 lines, one after the other, with one radius and no wanted numbers. places[i] is what
+ * film_read_line answers for the 63 bytes from 63 * i on, and the 63 bytes of the output from there on are what it leaves
+ * there: a refused line leaves its own as they were, and stops no other. The places past the last line are zeros, and so are
+ * all of them where the call is refused. Zeros look like a line that was read, so go by the count of lines: lines_len / 63. */
 
 enum {
     FILM_PLACES = 255 /* a count: the places of an answer, and the most lines of a spool */

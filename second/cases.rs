@@ -14,6 +14,7 @@ mod line;
 mod panel;
 mod ring;
 mod scans;
+mod spool;
 mod twice;
 
 use crate::code::Code;
@@ -37,6 +38,7 @@ const READ_BLOCK: Call = Call(12, "read_block");
 const BETTER_SCAN: Call = Call(13, "better_scan");
 const PANEL_TEXT: Call = Call(14, "panel_text");
 const PANEL_RING: Call = Call(15, "panel_ring");
+const READ_SPOOL: Call = Call(16, "read_spool");
 
 /// What is handed over: the head's fields, and the input.
 struct Case<'a> {
@@ -107,6 +109,7 @@ pub fn stored() -> (Vec<u8>, String) {
         changes::add_all,
         scans::add_all,
         panel::add_all,
+        spool::add_all,
     ];
     for add_all in sections {
         add_all(&mut cases);

@@ -3,8 +3,8 @@
 //!
 //! tools/compare-library builds and runs it: library ROUNDS [SEED]. Each output lies between two rows of bytes that must stay, and so does each
 //! input, which must stay too. All pairs of operands are tried, every length up to 300, a byte that is too high at every place, and the rows of the
-//! bench sheet; the rest is random, and the same in every run with that seed. second/library/ has the calls of registers, and what the change requests
-//! speak of. At the end each call must have given each answer that it can give.
+//! bench sheet; the rest is random, and the same in every run with that seed. second/library/ has the calls of registers, of spools and for a
+//! panel, and what the change requests speak of. At the end each call must have given each answer that it can give.
 
 // Of the second program only what answers is called here; what writes the stored files is not.
 #![allow(dead_code)]
@@ -21,6 +21,8 @@ mod interface;
 mod lent;
 mod line;
 mod panel;
+#[path = "library/panels.rs"]
+mod panels;
 mod random;
 mod refusals;
 #[path = "library/registers.rs"]
@@ -29,6 +31,9 @@ mod registers;
 mod requests;
 mod ring;
 mod scans;
+mod spool;
+#[path = "library/spools.rs"]
+mod spools;
 mod twice;
 
 use code::{added, marks, with_errors, Code};
@@ -45,14 +50,16 @@ use std::process::exit;
 /// The version that the library has to tell. tools/tables writes it from version.txt.
 const VERSION: u32 = 4002000;
 
-/// Each call, and every answer that it can give.
-const ANSWERS: [(&str, &[u8]); 15] = [
+/// Each call, and every answer that it can give. A spool's line is one of a spool that is read alone, by film_read_line.
+const ANSWERS: [(&str, &[u8]); 17] = [
     ("sum", &[0, VALUE_OVER]),
     ("product", &[0, VALUE_OVER]),
     ("quotient", &[0, VALUE_OVER, QUOTIENT_BY_ZERO]),
     ("encode_line", &[0, INPUT_LENGTH, VALUE_OVER, NUMBER_OVER, OUTPUT_LENGTH]),
     ("read_line", &[0, INPUT_LENGTH, VALUE_OVER, RADIUS_OVER, OUTPUT_LENGTH, NO_LINE]),
     ("read_line_wanted", &[0, INPUT_LENGTH, VALUE_OVER, RADIUS_OVER, NUMBER_OVER, OUTPUT_LENGTH, NO_LINE, OTHER_NUMBER]),
+    ("read_spool", &[0, INPUT_LENGTH, OUTPUT_LENGTH]),
+    ("spool_line", &[0, VALUE_OVER, RADIUS_OVER, NO_LINE]),
     ("better_scan", &[0, INPUT_LENGTH, VALUE_OVER, RADIUS_OVER, NO_LINE]),
     ("list_ring", &[0, INPUT_LENGTH, VALUE_OVER, RADIUS_OVER, OUTPUT_LENGTH]),
     ("read_ring", &[0, INPUT_LENGTH, VALUE_OVER, RADIUS_OVER, OUTPUT_LENGTH, NO_LINE, MANY_STARTS]),
@@ -69,6 +76,11 @@ const UNTOUCHED: u8 = 170;
 /// The numbers of a call, the answer first, and its output.
 type Due = (Vec<usize>, Vec<u8>);
 
+/// The numbers of a line's reading, in the order of the second program.
+fn line_numbers(r: &Line) -> Vec<usize> {
+    vec![r.answer as usize, r.number as usize, r.distance as usize, r.first as usize, r.last as usize]
+}
+
 struct Comparison {
     code: Code,
     random: Random,
@@ -80,7 +92,7 @@ impl Comparison {
     /// Holds what the library gave against what is due, the answer first.
     fn hold<T: PartialEq + Debug>(&mut self, call: &'static str, input: &dyn Debug, given: (Vec<usize>, T), due: (Vec<usize>, T)) {
         if given != due {
-            println!("{call} differs at {input:?}\nlibrary {given:?}\nsecond  {due:?}");
+            println!("{call} differs at {input:?}\nlibrary {given:?}\ndue     {due:?}");
             exit(1);
         }
         *self.given.entry((call, due.0[0])).or_default() += 1;
@@ -88,12 +100,17 @@ impl Comparison {
 
     /// Calls a function with an input and an output, and holds its numbers and its output against those that are due.
     fn call(&mut self, name: &'static str, input: &[u8], numbers: &[usize], due: Due, call: impl FnOnce(*const u8, *mut u8) -> Vec<usize>) {
+        self.call_over(&vec![UNTOUCHED; due.1.len()], name, input, numbers, due, call);
+    }
+
+    /// The same, over an output that holds other bytes before.
+    fn call_over(&mut self, old: &[u8], name: &'static str, input: &[u8], numbers: &[usize], due: Due, call: impl FnOnce(*const u8, *mut u8) -> Vec<usize>) {
         let mut lent = Lent::new(input);
-        let mut output = Lent::new(&vec![UNTOUCHED; due.1.len()]);
+        let mut output = Lent::new(old);
         let given = call(lent.pointer(), output.pointer());
         let as_it_was = lent.back() == Some(input);
         let given = (given, (as_it_was, output.back().map(<[u8]>::to_vec)));
-        self.hold(name, &(input, numbers, due.1.len()), given, (due.0, (true, Some(due.1))));
+        self.hold(name, &(input, numbers, old.len()), given, (due.0, (true, Some(due.1))));
     }
 
     fn encode_line(&mut self, text: &[u8], number: u16, room: usize) {
@@ -106,13 +123,12 @@ impl Comparison {
 
     fn read_line(&mut self, word: &[u8], radius: u8, wanted: Option<u16>, room: usize) {
         let due = line::read(&self.code, word, radius, wanted, room);
-        let numbers = |r: Line| vec![r.answer as usize, r.number as usize, r.distance as usize, r.first as usize, r.last as usize];
         match wanted {
             None => self.call("read_line", word, &[radius as usize], due, |given, out| unsafe {
-                numbers(film_read_line(given, word.len(), radius, out, room))
+                line_numbers(&film_read_line(given, word.len(), radius, out, room))
             }),
             Some(wanted) => self.call("read_line_wanted", word, &[radius as usize, wanted as usize], due, |given, out| unsafe {
-                numbers(film_read_line_wanted(given, word.len(), radius, wanted, out, room))
+                line_numbers(&film_read_line_wanted(given, word.len(), radius, wanted, out, room))
             }),
         }
     }
@@ -140,28 +156,6 @@ impl Comparison {
             let r = film_read_ring(given, ring.len(), radius, out, room);
             vec![r.answer as usize, r.start as usize, r.number as usize, r.distance as usize, r.first as usize, r.last as usize]
         });
-    }
-
-    fn panel_text(&mut self, text: &[u8], room: usize) {
-        let due = panel::text(text, room);
-        if let Some(back) = panel::undone(&due) {
-            assert_eq!(back, text[1..]);
-        }
-        self.call("panel_text", text, &[], due, |given, out| unsafe {
-            let r = film_panel_text(given, text.len(), out, room);
-            vec![r.answer as usize, r.length as usize]
-        });
-    }
-
-    /// What was written for a ring, undone, is given back.
-    fn panel_ring(&mut self, ring: &[u8], radius: u8, room: usize) -> Option<Vec<u8>> {
-        let due = panel::ring(&self.code, ring, radius, room);
-        let back = panel::undone(&due);
-        self.call("panel_ring", ring, &[radius as usize], due, |given, out| unsafe {
-            let r = film_panel_ring(given, ring.len(), radius, out, room);
-            vec![r.answer as usize, r.length as usize]
-        });
-        back
     }
 
     fn encode_block(&mut self, data: &[u8], room: usize) {
@@ -363,6 +357,9 @@ fn main() {
     comparison.bench_rows();
     comparison.dark_and_bright();
     comparison.panel_bytes();
+    comparison.spool_lengths();
+    comparison.spool_counts();
+    comparison.refused_among_right();
     for i in 0..rounds {
         comparison.round(i % 8 == 0);
         if i % 8 == 0 {
@@ -373,6 +370,7 @@ fn main() {
             comparison.two_scans();
             comparison.panel_texts();
             comparison.panel_rings();
+            comparison.any_spool();
         }
         if i % 64 == 0 {
             comparison.by_the_character();

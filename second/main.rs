@@ -20,6 +20,7 @@ mod refusals;
 mod ring;
 mod scans;
 mod sheet;
+mod spool;
 mod tray;
 mod twice;
 

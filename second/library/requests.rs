@@ -1,18 +1,13 @@
 //! The parts of the comparison that the change requests speak of: lines merged by exclusive or, undamaged rings, blocks whose columns are even, words
-//! whose locator has a root twice, two scans of one line, texts for a panel, and products looked up on the page.
+//! whose locator has a root twice, two scans of one line, and products looked up on the page.
 
-use crate::code::with_errors;
 use crate::interface::film_product;
-use crate::line::{number, random_errors, random_line};
-use crate::panel::{characters, random_kinds, random_note, random_text, PLAIN, ROOM, TEXT};
+use crate::line::{number, random_line};
 use crate::{adding, even, false_starts, finger, ring, scans, twice, Comparison};
 use std::fs;
 
 /// Where the table of products is written: as the code has it, and as a page.
 const TABLES: [&str; 2] = ["crates/field/src/table.rt", "docs/PRODUCTS.md"];
-
-/// What is written by name, and names and what is like them in a text's own characters, among which is no small letter.
-const LIKE_NAMES: [&str; 9] = ["&", "<", ">", "\"", "'", "&#39;", "#39;", "&AMP;", "LT;"];
 
 impl Comparison {
     /// Lines merged, and a clean word turned or reversed: each word is read, and the line that it is read as is encoded.
@@ -95,46 +90,6 @@ impl Comparison {
         let radius = self.below(6, 256) as u8;
         let [word, another] = [(); 2].map(|()| self.word(radius));
         self.better_scan(&word, &another, radius);
-    }
-
-    /// Every byte at every place of a text, the kind's too, with each kind.
-    pub fn panel_bytes(&mut self) {
-        for (place, byte) in (0..TEXT).flat_map(|place| (0..=255).map(move |byte| (place, byte))) {
-            for kind in random_kinds(&mut self.random) {
-                let mut text = random_text(&mut self.random, kind);
-                text[place] = byte;
-                self.panel_text(&text, ROOM);
-            }
-        }
-    }
-
-    /// A plain text full of what is like names, one of any characters, and one of any kind; the output is a little too short at times.
-    pub fn panel_texts(&mut self) {
-        let spelled: String = (1..TEXT).map(|_| LIKE_NAMES[self.random.below(LIKE_NAMES.len())]).collect();
-        let names = [vec![PLAIN], characters(&spelled[..TEXT - 1])].concat();
-        let kind = self.random.below(64) as u8;
-        for text in [names, random_text(&mut self.random, PLAIN), random_text(&mut self.random, kind)] {
-            let room = ROOM - 2 + self.random.below(20);
-            self.panel_text(&text, room);
-        }
-    }
-
-    /// A line of any kind on a ring, with some wrong characters, at every radius; and noise. Where they and the radius are three at most, the line is read.
-    pub fn panel_rings(&mut self) {
-        let kind = random_kinds(&mut self.random)[self.random.below(3)];
-        let line = random_note(&self.code, &mut self.random, kind);
-        let wrong = self.random.below(5);
-        let ring = ring::recorded(&with_errors(&line, &random_errors(&mut self.random, wrong)), self.random.below(126));
-        for radius in 0..=5 {
-            let back = self.panel_ring(&ring, radius, ROOM);
-            if wrong <= radius as usize && wrong + radius as usize <= 3 {
-                assert_eq!(back, (kind == PLAIN).then(|| line[1..TEXT].to_vec()));
-            }
-        }
-        let noise = self.random.bytes(63, 64);
-        for room in [ROOM - 1, ROOM] {
-            self.panel_ring(&noise, 5, room);
-        }
     }
 
     /// Every product as a finger finds it in the written table, held against the library's.

@@ -11,6 +11,7 @@
 // hexadecimal digits, or `r` and the number of the refusal.
 // Better scan: the input is the two scans, one after the other. The numbers are the answer and the scan, and the answer that comes with the part of the
 // input that is handed back; the bytes are that part's.
+// Read spool: the numbers are the answer, and those of each place, as reading its line gives them, up to the last that does not hold only zeros.
 // Step and checks: the input is the eleven characters held (0 for each that is not there), and the number's low byte is the count.
 // Any other call: `passed over`.
 // The run ends where the input ends, also within a case, or after MOST_CASES.
@@ -24,6 +25,8 @@ use film::FilmElement;
 use film::FilmRegister;
 use libc::STDIN_FILENO;
 use libc::STDOUT_FILENO;
+
+mod lines;
 
 const SUM: u8 = 1;
 
@@ -54,6 +57,8 @@ const BETTER_SCAN: u8 = 13;
 const PANEL_TEXT: u8 = 14;
 
 const PANEL_RING: u8 = 15;
+
+const READ_SPOOL: u8 = 16;
 
 // The length of a head.
 const HEAD: usize = 8;
@@ -198,36 +203,6 @@ fn checks(held: &[u8], count: u16) {
     show(b"checks", &[given.answer as u16], &checks);
 }
 
-fn read_line(word: &[u8], radius: u8, output: &mut [u8]) {
-    let given = film::film_read_line(word, radius, output);
-    show(
-        b"read_line",
-        &[
-            given.answer as u16,
-            given.number,
-            given.distance as u16,
-            given.first as u16,
-            given.last as u16,
-        ],
-        output,
-    );
-}
-
-fn read_line_wanted(word: &[u8], radius: u8, wanted: u16, output: &mut [u8]) {
-    let given = film::film_read_line_wanted(word, radius, wanted, output);
-    show(
-        b"read_line_wanted",
-        &[
-            given.answer as u16,
-            given.number,
-            given.distance as u16,
-            given.first as u16,
-            given.last as u16,
-        ],
-        output,
-    );
-}
-
 fn list_ring(ring: &[u8], radius: u8, output: &mut [u8]) {
     let given = film::film_list_ring(ring, radius, output);
     show(
@@ -305,8 +280,8 @@ fn hand_over(call: u8, small: u8, number: u16, input: &[u8], output: &mut [u8]) 
         ENCODE_LINE => encode_line(input, number, output),
         STEP => step(input, number, small),
         CHECKS => checks(input, number),
-        READ_LINE => read_line(input, small, output),
-        READ_LINE_WANTED => read_line_wanted(input, small, number, output),
+        READ_LINE => lines::read_line(input, small, output),
+        READ_LINE_WANTED => lines::read_line_wanted(input, small, number, output),
         LIST_RING => list_ring(input, small, output),
         READ_RING => read_ring(input, small, output),
         ENCODE_BLOCK => encode_block(input, output),
@@ -314,6 +289,7 @@ fn hand_over(call: u8, small: u8, number: u16, input: &[u8], output: &mut [u8]) 
         BETTER_SCAN => better_of_two(input, wide(number), small),
         PANEL_TEXT => panel_text(input, output),
         PANEL_RING => panel_ring(input, small, output),
+        READ_SPOOL => lines::read_spool(input, small, output),
         _ => pass_over(),
     }
 }

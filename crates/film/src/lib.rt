@@ -25,6 +25,7 @@ use panel::PanelText;
 use ring::RingListing;
 use ring::RingReading;
 use scans::Choice;
+use spool::PLACES;
 use spool::SpoolAnswer;
 
 // The library's version: a million times the major number, a thousand times the minor, and the patch. tools/tables writes it from version.txt.
@@ -48,7 +49,7 @@ pub struct FilmElement {
 // What reading each line of a spool answers, line by line, with zeros past the last line and in a refusal; and the answer of the call.
 #[repr(C)]
 pub struct FilmSpool {
-    pub places: [PlainReading; 255],
+    pub places: [PlainReading; PLACES],
     pub answer: u8,
 }
 

@@ -12,7 +12,10 @@ use refusal::Refusal;
 // The characters of a line.
 const LINE: usize = 63;
 
-// The characters of the longest spool: 255 lines.
+// The places of an answer: one for each line of the longest spool.
+pub const PLACES: usize = 255;
+
+// The characters of that spool.
 const SPOOL: usize = 16065;
 
 // That the lines were read, each as its place tells; or why none was.
@@ -23,7 +26,7 @@ pub enum SpoolAnswer {
 
 // What reading each line answers, line by line, with zeros past the last line and in a refusal; and the answer of the call.
 pub struct Spooled {
-    pub places: [PlainReading; 255],
+    pub places: [PlainReading; PLACES],
     pub answer: SpoolAnswer,
 }
 
@@ -48,7 +51,7 @@ pub fn read_spool(lines: &[u8], radius: u8, output: &mut [u8]) -> Spooled
 }
 
 // Reads n lines, each into its own 63 bytes.
-fn read_each(lines: &[u8], radius: u8, output: &mut [u8], n: usize) -> [PlainReading; 255]
+fn read_each(lines: &[u8], radius: u8, output: &mut [u8], n: usize) -> [PlainReading; PLACES]
     requires { ⌜ n ≤ 255 ⌝ }
     requires { ⌜ length (now lines) ≡ n * 63 ⌝ }
     requires { ⌜ length (now output) ≡ n * 63 ⌝ }
@@ -82,8 +85,8 @@ fn refused(why: Refusal) -> Spooled
     }
 }
 
-// 255 places that tell nothing.
-fn no_places() -> [PlainReading; 255]
+// Places that tell nothing.
+fn no_places() -> [PlainReading; PLACES]
     ensures { λ r. ⌜ r ≡ noPlaces ⌝ }
 {
     let none = PlainReading {
@@ -93,5 +96,5 @@ fn no_places() -> [PlainReading; 255]
         first: 0,
         last: 0,
     };
-    [none; 255]
+    [none; PLACES]
 }

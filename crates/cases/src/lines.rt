@@ -1,0 +1,75 @@
+// The calls that read lines, one or a spool of them: what is told of a line is printed in one way.
+ghost use Prim.Native.Nat.{_≤_};
+use super::print;
+use super::print_bytes;
+use super::print_number;
+use super::print_numbers;
+use line::PlainReading;
+
+// How many places the answer for a spool has.
+const PLACES: usize = 255;
+
+pub fn read_line(word: &[u8], radius: u8, output: &mut [u8]) {
+    let given = film::film_read_line(word, radius, output);
+    print(b"read_line");
+    print_reading(given);
+    print_bytes(output);
+}
+
+pub fn read_line_wanted(word: &[u8], radius: u8, wanted: u16, output: &mut [u8]) {
+    let given = film::film_read_line_wanted(word, radius, wanted, output);
+    print(b"read_line_wanted");
+    print_reading(given);
+    print_bytes(output);
+}
+
+pub fn read_spool(lines: &[u8], radius: u8, output: &mut [u8]) {
+    let given = film::film_read_spool(lines, radius, output);
+    let places = given.places;
+    print(b"read_spool");
+    print_number(given.answer as u16);
+    print_places(places);
+    print_bytes(output);
+}
+
+fn print_reading(reading: PlainReading) {
+    print_numbers(
+        &[
+            reading.answer as u16,
+            reading.number,
+            reading.distance as u16,
+            reading.first as u16,
+            reading.last as u16,
+        ],
+    );
+}
+
+// Prints the numbers of each place, up to the last that does not hold only zeros.
+fn print_places(places: [PlainReading; PLACES]) {
+    let count = count_held(places);
+    let mut i: usize = 0;
+    while i < count {
+        print_reading(places[i]);
+        i += 1;
+    }
+}
+
+// How many places there are up to the last that does not hold only zeros.
+fn count_held(places: [PlainReading; PLACES]) -> usize
+    ensures { λ r. ⌜ r ≤ 255 ⌝ }
+{
+    let mut n: usize = PLACES;
+    while n > 0 && is_zero(places[n - 1]) {
+        n -= 1;
+    }
+    n
+}
+
+// Whether a place holds only zeros.
+fn is_zero(place: PlainReading) -> bool {
+    place.answer == 0
+        && place.distance == 0
+        && place.number == 0
+        && place.first == 0
+        && place.last == 0
+}

@@ -1,8 +1,8 @@
 /* The benchmark: the library, libfec and the second program on the same words, interleaved, the minimum of many rounds.
  *
  * bench/run builds and runs it. A time is that of the whole call, from the caller's characters to the caller's line, number, distance
- * and changed addresses, or text. bench/peers.c has libfec, and plain C for what libfec has nothing of. Before anything is timed, all peers
- * must give the same answers on all words. */
+ * and changed addresses, or text; of a spool, that of one of its lines. bench/peers.c has libfec, and plain C for what libfec has nothing
+ * of. Before anything is timed, all peers must give the same answers on all words. */
 #include "bench.h"
 #include "film.h"
 #include <stdio.h>
@@ -74,20 +74,30 @@ static void ours_panel(film_panel panel, reply *r) {
 
 static void ours_panel_text(const uint8_t *input, uint8_t radius, reply *r) {
     (void)radius;
-    ours_panel(film_panel_text(input, FILM_TEXT, r->out, sizeof r->out), r);
+    ours_panel(film_panel_text(input, FILM_TEXT, r->out, FILM_PANEL), r);
 }
 
 static void ours_panel_ring(const uint8_t *input, uint8_t radius, reply *r) {
-    ours_panel(film_panel_ring(input, FILM_CHARACTERS, radius, r->out, sizeof r->out), r);
+    ours_panel(film_panel_ring(input, FILM_CHARACTERS, radius, r->out, FILM_PANEL), r);
+}
+
+static void ours_spool(const uint8_t *input, uint8_t radius, reply *r) {
+    film_spool spool = film_read_spool(input, FILM_SPOOL, radius, r->out, FILM_SPOOL);
+    memcpy(r->places, spool.places, sizeof r->places);
+    r->answer = spool.answer, r->distance = 0, r->number = 0, r->length = spool.answer == 0 ? FILM_SPOOL : 0;
 }
 
 /* ---- The rows, and their words. */
 
-enum { LINES = 128, RINGS = 4, OURS = 0, FEC = 1, SECOND = 2, PEERS = 3, SELDOM = 20 };
+enum { LINES = 128, RINGS = 4, SPOOLS = 8, OURS = 0, FEC = 1, SECOND = 2, PEERS = 3, SELDOM = 20 };
 
 static const char *const peer_names[PEERS] = {"film", "libfec", "second"};
 
-typedef enum { ENCODE, READ, SCANS, RING, NOISE, BLOCK, FIELD, PANEL, PANEL_RING } kind;
+typedef enum { ENCODE, READ, SCANS, RING, NOISE, BLOCK, FIELD, PANEL, PANEL_RING, SPOOL } kind;
+
+/* Lines with one error in a spool of the mix. Table 1 of source document 001 has 849,085 single errors in 108,366,272 lines: 1.998 in 255. More errors than
+ * one have 9,116 of its lines, 0.021 in 255 and 0.17 in the row's eight spools: nearest to that is none. */
+enum { MIXED = 2 };
 
 typedef struct {
     const char *name;
@@ -95,32 +105,34 @@ typedef struct {
     int wrong;
     uint8_t radius;
     call *calls[PEERS];
-    uint8_t words[LINES][63];
+    uint8_t (*words)[63];
     double least[PEERS];
 } row;
 
 static row rows[] = {
-    {"encode", ENCODE, 0, 0, {ours_encode, fec_encode, second_encode}, {{0}}, {0}},
-    {"encode_by_character", ENCODE, 0, 0, {ours_encode_by_character, fec_encode, second_encode}, {{0}}, {0}},
-    {"read_0", READ, 0, 5, {ours_read, fec_read, second_read}, {{0}}, {0}},
-    {"read_1", READ, 1, 5, {ours_read, fec_read, second_read}, {{0}}, {0}},
-    {"read_2", READ, 2, 5, {ours_read, fec_read, second_read}, {{0}}, {0}},
-    {"read_3", READ, 3, 5, {ours_read, fec_read, second_read}, {{0}}, {0}},
-    {"read_4", READ, 4, 5, {ours_read, fec_read, second_read}, {{0}}, {0}},
-    {"read_5", READ, 5, 5, {ours_read, fec_read, second_read}, {{0}}, {0}},
-    {"read_6_refused", READ, 6, 5, {ours_read, fec_read, second_read}, {{0}}, {0}},
-    {"list_clean_radius_5", RING, 0, 5, {ours_list, fec_list, second_list}, {{0}}, {0}},
-    {"list_2_errors_radius_5", RING, 2, 5, {ours_list, fec_list, second_list}, {{0}}, {0}},
-    {"list_noise_radius_5", NOISE, 0, 5, {ours_list, fec_list, second_list}, {{0}}, {0}},
-    {"list_clean_radius_1", RING, 0, 1, {ours_list, fec_list, second_list}, {{0}}, {0}},
-    {"list_2_errors_radius_1", RING, 2, 1, {ours_list, fec_list, second_list}, {{0}}, {0}},
-    {"list_noise_radius_1", NOISE, 0, 1, {ours_list, fec_list, second_list}, {{0}}, {0}},
-    {"block_9_rows", BLOCK, 0, 0, {ours_block, plain_block, second_block}, {{0}}, {0}},
-    {"products_62", FIELD, 0, 0, {ours_products, plain_products, second_products}, {{0}}, {0}},
-    {"quotients_62", FIELD, 0, 0, {ours_quotients, plain_quotients, second_quotients}, {{0}}, {0}},
-    {"better_scan", SCANS, 1, 5, {ours_better, fec_better, second_better}, {{0}}, {0}},
-    {"panel_text", PANEL, 0, 0, {ours_panel_text, plain_panel_text, second_panel_text}, {{0}}, {0}},
-    {"panel_ring", PANEL_RING, 1, 1, {ours_panel_ring, fec_panel_ring, second_panel_ring}, {{0}}, {0}},
+    {"encode", ENCODE, 0, 0, {ours_encode, fec_encode, second_encode}, NULL, {0}},
+    {"encode_by_character", ENCODE, 0, 0, {ours_encode_by_character, fec_encode, second_encode}, NULL, {0}},
+    {"read_0", READ, 0, 5, {ours_read, fec_read, second_read}, NULL, {0}},
+    {"read_1", READ, 1, 5, {ours_read, fec_read, second_read}, NULL, {0}},
+    {"read_2", READ, 2, 5, {ours_read, fec_read, second_read}, NULL, {0}},
+    {"read_3", READ, 3, 5, {ours_read, fec_read, second_read}, NULL, {0}},
+    {"read_4", READ, 4, 5, {ours_read, fec_read, second_read}, NULL, {0}},
+    {"read_5", READ, 5, 5, {ours_read, fec_read, second_read}, NULL, {0}},
+    {"read_6_refused", READ, 6, 5, {ours_read, fec_read, second_read}, NULL, {0}},
+    {"list_clean_radius_5", RING, 0, 5, {ours_list, fec_list, second_list}, NULL, {0}},
+    {"list_2_errors_radius_5", RING, 2, 5, {ours_list, fec_list, second_list}, NULL, {0}},
+    {"list_noise_radius_5", NOISE, 0, 5, {ours_list, fec_list, second_list}, NULL, {0}},
+    {"list_clean_radius_1", RING, 0, 1, {ours_list, fec_list, second_list}, NULL, {0}},
+    {"list_2_errors_radius_1", RING, 2, 1, {ours_list, fec_list, second_list}, NULL, {0}},
+    {"list_noise_radius_1", NOISE, 0, 1, {ours_list, fec_list, second_list}, NULL, {0}},
+    {"block_9_rows", BLOCK, 0, 0, {ours_block, plain_block, second_block}, NULL, {0}},
+    {"products_62", FIELD, 0, 0, {ours_products, plain_products, second_products}, NULL, {0}},
+    {"quotients_62", FIELD, 0, 0, {ours_quotients, plain_quotients, second_quotients}, NULL, {0}},
+    {"better_scan", SCANS, 1, 5, {ours_better, fec_better, second_better}, NULL, {0}},
+    {"panel_text", PANEL, 0, 0, {ours_panel_text, plain_panel_text, second_panel_text}, NULL, {0}},
+    {"panel_ring", PANEL_RING, 1, 1, {ours_panel_ring, fec_panel_ring, second_panel_ring}, NULL, {0}},
+    {"spool_clean", SPOOL, 0, 5, {ours_spool, fec_spool, second_spool}, NULL, {0}},
+    {"spool_mix", SPOOL, MIXED, 5, {ours_spool, fec_spool, second_spool}, NULL, {0}},
 };
 
 enum { ROWS = sizeof rows / sizeof rows[0] };
@@ -205,13 +217,40 @@ static void make_word(const row *w, uint8_t *word) {
             word[place_at(start, a)] = line[a];
         return;
     }
+    case SPOOL: {
+        int wrong[FILM_PLACES] = {0};
+        for (int n = w->wrong; n > 0;) {
+            uint64_t i = below(FILM_PLACES);
+            n -= !wrong[i];
+            wrong[i] = 1;
+        }
+        for (int i = 0; i < FILM_PLACES; i++) {
+            characters(line);
+            fec_encode(line, 0, &r);
+            memcpy(word + 63 * i, r.out, 63);
+            damage(word + 63 * i, wrong[i]);
+        }
+        return;
+    }
     }
 }
 
-/* Two scans are two words, one after the other. */
-static int stride(const row *w) { return w->of == SCANS ? 2 : 1; }
+/* Two scans are two words, one after the other, and a spool is 255. */
+static int stride(const row *w) { return w->of == SCANS ? 2 : w->of == SPOOL ? FILM_PLACES : 1; }
 
-static int words_of(const row *w) { return w->of == RING || w->of == NOISE || w->of == PANEL_RING ? RINGS : LINES / stride(w); }
+static int words_of(const row *w) {
+    return w->of == RING || w->of == NOISE || w->of == PANEL_RING ? RINGS : w->of == SPOOL ? SPOOLS : LINES / stride(w);
+}
+
+/* What the cost is given for: a call, but of a spool a line. */
+static int parts_of(const row *w) { return words_of(w) * (w->of == SPOOL ? FILM_PLACES : 1); }
+
+static int same_places(const reply *r, const reply *due) {
+    for (const film_line *p = r->places, *q = due->places; p < r->places + FILM_PLACES; p++, q++)
+        if (p->answer != q->answer || p->distance != q->distance || p->number != q->number || p->first != q->first || p->last != q->last)
+            return 0;
+    return 1;
+}
 
 static void same_answers(const row *w) {
     for (int i = 0; i < words_of(w); i++) {
@@ -221,7 +260,7 @@ static void same_answers(const row *w) {
             reply r = {0};
             w->calls[p](w->words[i * stride(w)], w->radius, &r);
             if (r.answer != due.answer || r.distance != due.distance || r.number != due.number || r.length != due.length ||
-                r.first != due.first || r.last != due.last || memcmp(r.out, due.out, due.length) != 0) {
+                r.first != due.first || r.last != due.last || memcmp(r.out, due.out, due.length) != 0 || !same_places(&r, &due)) {
                 printf("%s, word %d: %s and the library answer differently\n", w->name, i, peer_names[p]);
                 exit(1);
             }
@@ -234,8 +273,9 @@ static unsigned sink;
 
 __attribute__((noinline)) void measured(const row *w, int peer) {
     reply r;
-    for (int i = 0, n = words_of(w), step = stride(w); i < n; i++) {
-        w->calls[peer](w->words[i * step], w->radius, &r);
+    const uint8_t *word = w->words[0];
+    for (int i = 0, n = words_of(w), step = 63 * stride(w); i < n; i++, word += step) {
+        w->calls[peer](word, w->radius, &r);
         sink += (unsigned)(r.answer + r.distance + r.out[0]);
     }
 }
@@ -245,7 +285,7 @@ static double nanoseconds(const row *w, int peer) {
     clock_gettime(CLOCK_MONOTONIC, &from);
     measured(w, peer);
     clock_gettime(CLOCK_MONOTONIC, &to);
-    return ((double)(to.tv_sec - from.tv_sec) * 1e9 + (double)(to.tv_nsec - from.tv_nsec)) / words_of(w);
+    return ((double)(to.tv_sec - from.tv_sec) * 1e9 + (double)(to.tv_nsec - from.tv_nsec)) / parts_of(w);
 }
 
 static void print_times(int rounds) {
@@ -259,7 +299,7 @@ static void print_times(int rounds) {
                 if (round == 0 || t < w->least[p])
                     w->least[p] = t;
             }
-    printf("nanoseconds a call, minimum of %d rounds (second: of %d)\n", rounds, (rounds + SELDOM - 1) / SELDOM);
+    printf("nanoseconds a call, of a spool a line, minimum of %d rounds (second: of %d)\n", rounds, (rounds + SELDOM - 1) / SELDOM);
     printf("%-24s %12s %12s %12s\n", "", peer_names[OURS], peer_names[FEC], peer_names[SECOND]);
     for (const row *w = rows; w < rows + ROWS; w++)
         printf("%-24s %12.1f %12.1f %12.1f\n", w->name, w->least[OURS], w->least[FEC], w->least[SECOND]);
@@ -270,13 +310,17 @@ static void print_times(int rounds) {
 }
 
 /* bench ROUNDS times everything; bench names prints the rows; bench once ROW PEER makes the calls of one row once, for callgrind, and prints
- * how many calls those are. */
+ * how many calls those are, or how many lines of spools. */
 int main(int argc, char **argv) {
     if (!prepare_peers())
         return 1;
-    for (row *w = rows; w < rows + ROWS; w++)
+    for (row *w = rows; w < rows + ROWS; w++) {
+        w->words = calloc((size_t)(words_of(w) * stride(w)), sizeof *w->words);
+        if (w->words == NULL)
+            return 1;
         for (int i = 0; i < words_of(w); i++)
             make_word(w, w->words[i * stride(w)]);
+    }
 
     if (argc == 2 && strcmp(argv[1], "names") == 0) {
         for (const row *w = rows; w < rows + ROWS; w++)
@@ -287,7 +331,7 @@ int main(int argc, char **argv) {
         reply r;
         w->calls[peer](w->words[0], w->radius, &r); /* tables that a peer makes at its first call are not counted */
         measured(w, peer);
-        printf("%d\n", words_of(w));
+        printf("%d\n", parts_of(w));
     } else if (argc == 2 && atoi(argv[1]) > 0) {
         for (const row *w = rows; w < rows + ROWS; w++)
             same_answers(w);

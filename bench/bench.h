@@ -12,22 +12,23 @@ enum { PLAIN = 0, TEMPLATE = 1 };
 static inline int place_at(int start, int a) { return (start < FILM_CHARACTERS ? start + a : start - a) % FILM_CHARACTERS; }
 
 /* What a call gave. Where the answer is not 0, the other fields are 0, and so are those that a call has no use for. `out` gets `length` bytes, at most those of
- * the longest text for a panel. `first` and `last` are the changed addresses of a line that was read. */
+ * a spool. `first` and `last` are the changed addresses of a line that was read, and `places` what was told of each line of a spool. */
 typedef struct reply {
     uint8_t answer, distance, first, last;
     uint16_t length, number;
-    uint8_t out[FILM_PANEL];
+    uint8_t out[FILM_SPOOL];
+    film_line places[FILM_PLACES];
 } reply;
 
 /* Encoding takes 52 characters, the last two of them the number, and panel text takes 50; the others take the 63 characters or 9 rows, and a radius. Of two
  * scans, 126 characters, the number is 1 or 2, the scan that is kept. Products are those of each character and the one after it, 62 of them; quotients
- * likewise, 0 for one that is refused, and the distance is how many are. */
+ * likewise, 0 for one that is refused, and the distance is how many are. A spool is 255 lines, one after the other. */
 typedef void call(const uint8_t *input, uint8_t radius, reply *r);
 
 /* libfec, or plain C; they have to be prepared once, which gives 0 where libfec cannot be. */
 int prepare_peers(void);
-call fec_encode, fec_read, fec_better, fec_list, fec_panel_ring, plain_block, plain_products, plain_quotients, plain_panel_text;
+call fec_encode, fec_read, fec_better, fec_list, fec_panel_ring, fec_spool, plain_block, plain_products, plain_quotients, plain_panel_text;
 
-call second_encode, second_read, second_better, second_list, second_block, second_products, second_quotients, second_panel_text, second_panel_ring;
+call second_encode, second_read, second_better, second_list, second_block, second_products, second_quotients, second_panel_text, second_panel_ring, second_spool;
 
 #endif

@@ -176,6 +176,17 @@ void fec_panel_ring(const uint8_t *input, uint8_t radius, reply *r) {
     plain_panel_text(line.out, radius, r);
 }
 
+/* libfec reads the lines of a spool one by one. */
+void fec_spool(const uint8_t *input, uint8_t radius, reply *r) {
+    reply line;
+    r->answer = 0, r->distance = 0, r->number = 0, r->length = FILM_SPOOL;
+    for (int i = 0; i < FILM_PLACES; i++) {
+        fec_read(input + FILM_CHARACTERS * i, radius, &line);
+        memcpy(r->out + FILM_CHARACTERS * i, line.out, FILM_CHARACTERS);
+        r->places[i] = (film_line){.answer = line.answer, .distance = line.distance, .number = line.number, .first = line.first, .last = line.last};
+    }
+}
+
 int prepare_peers(void) {
     fec = init_rs_char(6, 0x43, 58, 1, 11, 0);
     make_logs();

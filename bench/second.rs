@@ -22,6 +22,8 @@ mod refusals;
 mod ring;
 #[path = "../second/scans.rs"]
 mod scans;
+#[path = "../second/spool.rs"]
+mod spool;
 
 use std::slice::from_raw_parts;
 use std::sync::OnceLock;
@@ -34,7 +36,18 @@ pub struct Reply {
     last: u8,
     length: u16,
     number: u16,
-    out: [u8; panel::ROOM],
+    out: [u8; spool::LONGEST],
+    places: [Place; spool::PLACES],
+}
+
+/// What is told of one line of a spool.
+#[repr(C)]
+pub struct Place {
+    answer: u8,
+    distance: u8,
+    number: u16,
+    first: u8,
+    last: u8,
 }
 
 impl Reply {
@@ -100,6 +113,16 @@ pub unsafe extern "C" fn second_panel_text(input: *const u8, _: u8, r: &mut Repl
 pub unsafe extern "C" fn second_panel_ring(input: *const u8, radius: u8, r: &mut Reply) {
     let (numbers, out) = panel::ring(code(), from_raw_parts(input, 63), radius, panel::ROOM);
     r.set(numbers[0] as u8, 0, 0, &out[..numbers[1]]);
+}
+
+#[no_mangle]
+pub unsafe extern "C" fn second_spool(input: *const u8, radius: u8, r: &mut Reply) {
+    let (numbers, out) = spool::read(code(), from_raw_parts(input, spool::LONGEST), radius, &r.out);
+    r.set(numbers[0] as u8, 0, 0, &out);
+    for (place, numbers) in r.places.iter_mut().zip(numbers[1..].chunks(spool::FIELDS)) {
+        let byte = |i: usize| numbers[i] as u8;
+        *place = Place { answer: byte(0), distance: byte(2), number: numbers[1] as u16, first: byte(3), last: byte(4) };
+    }
 }
 
 #[no_mangle]

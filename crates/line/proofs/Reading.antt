@@ -156,8 +156,8 @@ module _ (w : List ℕ) (t : ℕ) (m : Mended) (nearest : Nearest Line w (min t 
 
 -- ---- a word that is a line itself, where the sums of its errors are all 0; and one without the errors that have these sums
 
-pub part-long : (w : List ℕ) → length w ≡ 63 → 63 ≡ length (take 63 w)
-part-long w long = sym (length-take-le 63 w (le-of-eq (sym long)))
+pub all-long : (w : List ℕ) → length w ≡ 63 → 63 ≡ length (take 63 w)
+all-long w long = sym (length-take-le 63 w (le-of-eq (sym long)))
 
 module _ (w d : List ℕ) (t : ℕ) (es : ErrorSums w d) (long : length w ≡ 63) (characters : Yes (Characters w)) where
   module _ (b : Bool) (clear : Tells (Clear d) b) (q : b ≡ true) where

@@ -19,7 +19,7 @@ use Rattle.polynomial.proofs.Horner
 use Rattle.lanes.specs.Lanes.{pack, lane}
 use Rattle.lanes.proofs.Laws as Lanes
 use Rattle.terms.specs.Terms.{point, term}
-use Rattle.points.specs.Value.{value, part, valuesOf}
+use Rattle.points.specs.Value.{value, run, valuesOf}
 
 -- ---- one more character
 
@@ -50,37 +50,37 @@ value-append us vs i = Horner.value-append (point i) us vs
 
 -- ---- a word, a part after the other
 
-part-long : (w : List ℕ) (i k n : ℕ) → length (part w i k n) ≡ n
-unfolding part
-part-long w i k zero = refl
-part-long w i k (suc n) = ap suc (part-long w i (suc k) n)
+run-long : (w : List ℕ) (i k n : ℕ) → length (run w i k n) ≡ n
+unfolding run
+run-long w i k zero = refl
+run-long w i k (suc n) = ap suc (run-long w i (suc k) n)
 
-take-part : (w : List ℕ) (i k n : ℕ) → i + k + n ≤ length w → take (i + k) w ++ part w i k n ≡ take (i + k + n) w
-unfolding part
-take-part w i k zero h = append-nil (take (i + k) w) ∙ ap (λ (m : ℕ). take m w) (sym (add-zero (i + k)))
-take-part w i k (suc n) h =
-    sym (append-assoc (take (i + k) w) (getD w (i + k) 0 ∷ []) (part w i (suc k) n))
-    ∙ ap (λ (us : List ℕ). us ++ part w i (suc k) n)
+take-run : (w : List ℕ) (i k n : ℕ) → i + k + n ≤ length w → take (i + k) w ++ run w i k n ≡ take (i + k + n) w
+unfolding run
+take-run w i k zero h = append-nil (take (i + k) w) ∙ ap (λ (m : ℕ). take m w) (sym (add-zero (i + k)))
+take-run w i k (suc n) h =
+    sym (append-assoc (take (i + k) w) (getD w (i + k) 0 ∷ []) (run w i (suc k) n))
+    ∙ ap (λ (us : List ℕ). us ++ run w i (suc k) n)
     (sym (take-suc w (i + k) 0 (omega arith)) ∙ ap (λ (m : ℕ). take m w) (sym (add-suc i k)))
-    ∙ take-part w i (suc k) n (omega arith) ∙ ap (λ (m : ℕ). take m w) (moved i k n)
+    ∙ take-run w i (suc k) n (omega arith) ∙ ap (λ (m : ℕ). take m w) (moved i k n)
   where
     moved : (i k n : ℕ) → i + suc k + n ≡ i + k + suc n
     moved i k n = omega arith
 
 -- the part from i on, as the code reads it
-pub part-read : (w : List ℕ) (i r : ℕ)
+pub run-read : (w : List ℕ) (i r : ℕ)
     → r ≡ pack 10 (value (getD w i 0 ∷ getD w (i + 1) 0 ∷ getD w (i + 2) 0 ∷ getD w (i + 3) 0 ∷ getD w (i + 4) 0 ∷ getD w (i + 5) 0 ∷ getD w (i + 6) 0 ∷ getD w (i + 7) 0 ∷ getD w (i + 8) 0 ∷ getD w (i + 9) 0 ∷ getD w (i + 10) 0 ∷ getD w (i + 11) 0 ∷ getD w (i + 12) 0 ∷ getD w (i + 13) 0 ∷ getD w (i + 14) 0 ∷ getD w (i + 15) 0 ∷ getD w (i + 16) 0 ∷ getD w (i + 17) 0 ∷ getD w (i + 18) 0 ∷ getD w (i + 19) 0 ∷ getD w (i + 20) 0 ∷ []))
-    → r ≡ pack 10 (value (part w i 0 21))
-unfolding part
-part-read w i r e = e ∙ ap (λ (m : ℕ). pack 10 (value (getD w m 0 ∷ part w i 1 20))) (sym (add-zero i))
+    → r ≡ pack 10 (value (run w i 0 21))
+unfolding run
+run-read w i r e = e ∙ ap (λ (m : ℕ). pack 10 (value (getD w m 0 ∷ run w i 1 20))) (sym (add-zero i))
 
 -- 63 characters are three parts
-three-parts : (w : List ℕ) → length w ≡ 63 → part w 0 0 21 ++ (part w 21 0 21 ++ part w 42 0 21) ≡ w
+three-parts : (w : List ℕ) → length w ≡ 63 → run w 0 0 21 ++ (run w 21 0 21 ++ run w 42 0 21) ≡ w
 three-parts w l =
-    sym (append-assoc (part w 0 0 21) (part w 21 0 21) (part w 42 0 21))
-    ∙ ap (λ (us : List ℕ). us ++ part w 21 0 21 ++ part w 42 0 21) (take-part w 0 0 21 (omega arith))
-    ∙ ap (λ (us : List ℕ). us ++ part w 42 0 21) (take-part w 21 0 21 (omega arith))
-    ∙ take-part w 42 0 21 (omega arith) ∙ take-all 63 w (omega arith)
+    sym (append-assoc (run w 0 0 21) (run w 21 0 21) (run w 42 0 21))
+    ∙ ap (λ (us : List ℕ). us ++ run w 21 0 21 ++ run w 42 0 21) (take-run w 0 0 21 (omega arith))
+    ∙ ap (λ (us : List ℕ). us ++ run w 42 0 21) (take-run w 21 0 21 (omega arith))
+    ∙ take-run w 42 0 21 (omega arith) ∙ take-all 63 w (omega arith)
 
 -- ---- three parts joined
 
@@ -187,17 +187,17 @@ module _ (f g h : ℕ → ℕ) (fs : (j : ℕ) → f j < 64) (gs : (j : ℕ) →
 pub record PartsTo (w parts : List ℕ) (k : ℕ) : Type 0 where
   pub most : k ≤ 3
   pub long : length parts ≡ 3
-  pub passed : (j : ℕ) → j < k → getD parts j 0 ≡ pack 10 (value (part w (21 * j) 0 21))
+  pub passed : (j : ℕ) → j < k → getD parts j 0 ≡ pack 10 (value (run w (21 * j) 0 21))
 
 pub parts-none : (w parts : List ℕ) → length parts ≡ 3 → PartsTo w parts 0
-parts-none w parts h = record { most = omega arith; long = h; passed = below-none (λ j. getD parts j 0 ≡ pack 10 (value (part w (21 * j) 0 21))) }
+parts-none w parts h = record { most = omega arith; long = h; passed = below-none (λ j. getD parts j 0 ≡ pack 10 (value (run w (21 * j) 0 21))) }
 
-pub parts-again : (w parts : List ℕ) (k r : ℕ) → PartsTo w parts k → k < 3 → r ≡ pack 10 (value (part w (21 * k) 0 21)) → PartsTo w (set parts k r) (k + 1)
+pub parts-again : (w parts : List ℕ) (k r : ℕ) → PartsTo w parts k → k < 3 → r ≡ pack 10 (value (run w (21 * k) 0 21)) → PartsTo w (set parts k r) (k + 1)
 parts-again w parts k r p h e =
     record {
       most = omega arith;
       long = length-set parts k r ∙ p .long;
-      passed = below-more (λ j. getD (set parts k r) j 0 ≡ pack 10 (value (part w (21 * j) 0 21))) k
+      passed = below-more (λ j. getD (set parts k r) j 0 ≡ pack 10 (value (run w (21 * j) 0 21))) k
           (λ j l. getD-set-other parts k j r 0 (λ q. omega arith) ∙ p .passed j l)
           (getD-set-same parts k r 0 (let l = p .long in omega arith) ∙ e);
     }
@@ -213,18 +213,18 @@ other-length w d = sym (ap (λ (b : Bool). cond b (pack 10 (value w)) 0) (ne-eqb
 module _ (w parts : List ℕ) (k q : ℕ) (l : length w ≡ 63) (p : PartsTo w parts k) (h : 3 ≤ k)
     (e : q ≡ pack 10 (λ j. product (lane 1079465052537102075 j) (lane (bitXor (getD parts 0 0) (getD parts 1 0)) j))) where
   abbrev a : List ℕ
-  a = part w 0 0 21
+  a = run w 0 0 21
 
   abbrev b : List ℕ
-  b = part w 21 0 21
+  b = run w 21 0 21
 
   abbrev c : List ℕ
-  c = part w 42 0 21
+  c = run w 42 0 21
 
   value-parts : (j : ℕ) → sum (product (value a j) (power (point j) 42)) (sum (product (value b j) (power (point j) 21)) (value c j)) ≡ value w j
   value-parts j =
       ap₂ (λ (m n : ℕ). sum (product (value a j) (power (point j) m)) (sum (product (value b j) (power (point j) n)) (value c j)))
-      (sym (length-append b c ∙ ap₂ (λ (m n : ℕ). m + n) (part-long w 21 0 21) (part-long w 42 0 21))) (sym (part-long w 42 0 21))
+      (sym (length-append b c ∙ ap₂ (λ (m n : ℕ). m + n) (run-long w 21 0 21) (run-long w 42 0 21))) (sym (run-long w 42 0 21))
       ∙ ap (sum (product (value a j) (power (point j) (length (b ++ c))))) (sym (value-append b c j)) ∙ sym (value-append a (b ++ c) j)
       ∙ ap (λ (us : List ℕ). value us j) (three-parts w l)
 

@@ -12,10 +12,10 @@ use Rattle.terms.specs.Terms.{point}
 unfoldable pub value : List ℕ → ℕ → ℕ
 value w i = valueAt (point i) w
 
--- n characters of w from i + k on
-unfoldable pub part : List ℕ → ℕ → ℕ → ℕ → List ℕ
-part w i k zero = []
-part w i k (suc n) = getD w (i + k) 0 ∷ part w i (suc k) n
+-- a run of n characters of w, from i + k on
+unfoldable pub run : List ℕ → ℕ → ℕ → ℕ → List ℕ
+run w i k zero = []
+run w i k (suc n) = getD w (i + k) 0 ∷ run w i (suc k) n
 
 -- the values of 63 characters in lanes; of another length 0
 unfoldable pub valuesOf : List ℕ → ℕ

@@ -4,7 +4,7 @@ ghost use mathlib.Core.List.{[], _∷_};
 ghost use Prim.Native.Nat.{_+_, _≤_};
 ghost use lib.ListN.{length};
 ghost use Rattle.lanes.specs.Lanes.{pack};
-ghost use Rattle.points.specs.Value.{value, part, valuesOf};
+ghost use Rattle.points.specs.Value.{value, run, valuesOf};
 
 // The powers 21 of the ten points are cube roots of 1: 1, ω, which is 59, or ω², which is ω + 1. Where a point's is p, three parts of 21 characters with the
 // values a, b and c have the value p² a + p b + c: each of p² and p is ω or 1, and 1 more where the lane is in a mask.
@@ -38,7 +38,7 @@ pub fn values(word: &[u8]) -> u64
 // The ten values of the 21 characters from an address on.
 fn part_values(word: &[u8], i: usize) -> u64
     requires { ⌜ i + 21 ≤ length (now word) ⌝ }
-    ensures { λ r. ⌜ r ≡ pack 10 (value (part (now (word .entry)) i 0 21)) ⌝ }
+    ensures { λ r. ⌜ r ≡ pack 10 (value (run (now (word .entry)) i 0 21)) ⌝ }
 {
     block(
         word[i],

@@ -1,7 +1,7 @@
 -- `line::read_line` meets its contract: each return is one way in which reading ends, in the order of the refusals.
 use borrow.Author.Needs.{needs}
 use Rattle.refusal.proofs.Ladder.{verdicts}
-use Rattle.line.proofs.Reading.{refused, read, itself-readable, itself-other, itself-fitting, itself-read, part-long, none-mended, mended-readable, mended-other, mended-fitting, mended-read, written, written-long, same-long}
+use Rattle.line.proofs.Reading.{refused, read, itself-readable, itself-other, itself-fitting, itself-read, all-long, none-mended, mended-readable, mended-other, mended-fitting, mended-read, written, written-long, same-long}
 use Rattle.line.proofs.read_line.Statement.{statement}
 use Rattle.line.proofs.read_line.Tie as tie
 
@@ -24,7 +24,7 @@ read-line-spec =
     (λ c κs. search needs)
     (λ c. search (same-long, needs))
     (λ c. read _ _ _ _ _ _ (search (itself-readable, itself-fitting, verdicts) depth 12) (search (itself-read, verdicts)))
-    (λ c. search (part-long, needs))
+    (λ c. search (all-long, needs))
     (λ c κs. search needs)
     (λ c. refused _ _ _ _ 5 (search (none-mended, verdicts) depth 9))
     (λ c. search needs)

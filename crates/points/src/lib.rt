@@ -7,15 +7,15 @@ ghost use Rattle.lanes.specs.Lanes.{pack};
 ghost use Rattle.points.specs.Value.{value, run, valuesOf};
 
 // The powers 21 of the ten points are cube roots of 1: 1, ω, which is 59, or ω², which is ω + 1. Where a point's is p, three parts of 21 characters with the
-// values a, b and c have the value p² a + p b + c: each of p² and p is ω or 1, and 1 more where the lane is in a mask.
+// values a, b and c have the value p² a + p b + c. Both p² and p are what stands here, ω, or 1 where p is 1, and 1 more in the lanes of a mask.
 const SHARED: u64 = 1079465052537102075;
 
-// The lanes in which p² is ω + 1, and those in which p is.
+// The lanes in which p² is 1 more, and those in which p is.
 const MORE_FIRST: u64 = 17732991195021375;
 
 const MORE_SECOND: u64 = 1134911436481368000;
 
-// The ten values of 63 characters; of another length 0. The values of three parts of 21 are taken by themselves, and joined.
+// The ten values of 63 characters; of another length 0. The values of three parts of 21 are taken by themselves, and one product joins them.
 pub fn values(word: &[u8]) -> u64
     ensures { λ r. ⌜ r ≡ valuesOf (now (word .entry)) ⌝ }
 {

@@ -13,7 +13,8 @@
  * back. Called so, it can be lent as an output is, against a wall and with old bytes in it. */
 film_spool *film_read_spool_into(film_spool *answer, const uint8_t *lines, size_t lines_len, uint8_t radius, uint8_t *out, size_t out_len) __asm__("film_read_spool");
 
-enum { MOST_WORDS = 4 };
+/* Any length is one up to that of a line more than the longest spool; the room beside it may be a line and a byte longer still, and fits the pages. */
+enum { MOST_WORDS = 4, ANY_LENGTH = FILM_SPOOL + FILM_CHARACTERS };
 
 /* How many lines: most often a few, since many take long; at times the most, and one more. */
 static size_t take_count(void) {
@@ -27,7 +28,7 @@ static size_t take_near(size_t stated) {
     if (how < 224)
         return stated;
     if (how >= 252)
-        return take_two() % MOST_BYTES;
+        return take_two() % ANY_LENGTH;
     size_t by = take() % (FILM_CHARACTERS + 2);
     return how & 1 ? stated + by : by < stated ? stated - by : 0;
 }

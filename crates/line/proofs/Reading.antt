@@ -14,7 +14,7 @@ use Rattle.refusal.proofs.Laws.{tells-yes}
 use Rattle.refusal.proofs.Ladder.{Yes, No, Met, FailsAt, answerAt, refuses, succeeds}
 use Rattle.field.specs.Field.{sum}
 use Rattle.field.proofs.Laws
-use Rattle.code.specs.Word.{Characters, Line, marks, number, distance, added}
+use Rattle.code.specs.Word.{Characters, Line, marks, number, distance, nowhere, added}
 use Rattle.code.specs.Inside.{PowerSums}
 use Rattle.code.proofs.Words.{zero-get, listed-get, length-added, added-get}
 use Rattle.code.proofs.Sums.{powerSum-lt}
@@ -156,28 +156,32 @@ module _ (w : List ℕ) (t : ℕ) (m : Mended) (nearest : Nearest Line w (min t 
 
 -- ---- a word that is a line itself, where the sums of its errors are all 0; and one without the errors that have these sums
 
+-- what mending gives where there is nothing to mend
+abbrev unmended : List ℕ → Mended
+unmended w = record { found = true; weight = 0; first = nowhere; last = nowhere; word = w }
+
 pub all-long : (w : List ℕ) → length w ≡ 63 → 63 ≡ length (take 63 w)
 all-long w long = sym (length-take-le 63 w (le-of-eq (sym long)))
 
 module _ (w d : List ℕ) (t : ℕ) (es : ErrorSums w d) (long : length w ≡ 63) (characters : Yes (Characters w)) where
   module _ (b : Bool) (clear : Tells (Clear d) b) (q : b ≡ true) where
-    itself : Nearest Line w (min t 5) (record { found = true; weight = 0; first = 63; last = 63; word = w })
+    itself : Nearest Line w (min t 5) (unmended w)
     itself =
-        repaired-line w d t es long characters (record { found = true; weight = 0; first = 63; last = 63; word = w })
+        repaired-line w d t es long characters (unmended w)
         (repairs-none d w w (min t 5) b long clear q (unchanged w long))
 
     pub itself-readable : Yes (Readable t w)
-    itself-readable = readable w t (record { found = true; weight = 0; first = 63; last = 63; word = w }) itself refl
+    itself-readable = readable w t (unmended w) itself refl
 
     module _ (n : ℕ) (is : n ≡ getD w 50 0 % 64 * 64 + getD w 51 0 % 64) where
       pub itself-other : (wanted : Wanted) → t ≤ 5 → No (IsWanted wanted n) → No (Fitting t w wanted)
-      itself-other wanted = other w t (record { found = true; weight = 0; first = 63; last = 63; word = w }) itself refl n is wanted long
+      itself-other wanted = other w t (unmended w) itself refl n is wanted long
 
       pub itself-fitting : (wanted : Wanted) → Yes (IsWanted wanted n) → Yes (Fitting t w wanted)
-      itself-fitting = fitting w t (record { found = true; weight = 0; first = 63; last = 63; word = w }) itself refl n is
+      itself-fitting = fitting w t (unmended w) itself refl n is
 
       pub itself-read : (new : List ℕ) → new ≡ w → ReadAs t w (n ∷ 0 ∷ 63 ∷ 63 ∷ []) new
-      itself-read = the-line w t (record { found = true; weight = 0; first = 63; last = 63; word = w }) itself refl n is
+      itself-read = the-line w t (unmended w) itself refl n is
 
   module _ (m : Mended) (r : Without d (take 63 w) t m) where
     mended : Nearest Line w (min t 5) m

@@ -88,6 +88,16 @@ three-parts w l =
 bit : ℕ → ℕ → ℕ
 bit n j = n / 2 ^ j % 2
 
+-- the code's constants: what the powers 42 and 21 of each point share, and masks of the lanes in which the one and the other is 1 more
+abbrev sharedPowers : ℕ
+sharedPowers = 1079465052537102075
+
+abbrev moreFirst : ℕ
+moreFirst = 17732991195021375
+
+abbrev moreSecond : ℕ
+moreSecond = 1134911436481368000
+
 -- the lanes in which the power 42 of the point, and those in which its power 21, is ω + 1
 abbrev firsts : ℕ → ℕ
 firsts = bit 297
@@ -96,7 +106,7 @@ abbrev seconds : ℕ → ℕ
 seconds = bit 594
 
 abbrev shared : ℕ → ℕ
-shared = lane 1079465052537102075
+shared = lane sharedPowers
 
 -- a lane is kept or not
 kept : (t x : ℕ) → x < 64 → bitAnd x (t % 2 * 63) ≡ product (t % 2) x
@@ -113,7 +123,7 @@ module _ (n m : ℕ) (e : m ≡ pack 10 (λ j. bit n j * 63)) (f : ℕ → ℕ) 
 -- both powers of a point are what they share, and 1 more or not
 shared-lt : (n j : ℕ) → sum (shared j) (bit n j) < 64
 unfolding bit
-shared-lt n j = Laws.sum-lt (shared j) (bit n j) (Lanes.lane-lt 1079465052537102075 j) (omega arith)
+shared-lt n j = Laws.sum-lt (shared j) (bit n j) (Lanes.lane-lt sharedPowers j) (omega arith)
 
 powers-42 : (j : ℕ) → j < 10 → sum (shared j) (firsts j) ≡ power (point j) 42
 unfolding pack lane bit point power product shifted timesX sum
@@ -159,19 +169,19 @@ module _ (f g h : ℕ → ℕ) (fs : (j : ℕ) → f j < 64) (gs : (j : ℕ) →
   unfolding with-seconds
   seconds-lt j = Laws.sum-lt (with-firsts j) (product (seconds j) (g j)) (firsts-lt j) (Laws.product-lt (seconds j) (g j))
 
-  first-two : bitXor q (bitAnd (pack 10 f) 17732991195021375) ≡ pack 10 with-firsts
+  first-two : bitXor q (bitAnd (pack 10 f) moreFirst) ≡ pack 10 with-firsts
   unfolding with-firsts bit pack
   first-two =
-      ap₂ bitXor both (masked 297 17732991195021375 refl f fs)
+      ap₂ bitXor both (masked 297 moreFirst refl f fs)
       ∙ Lanes.xor-pack 10 terms-shared (λ j. product (firsts j) (f j)) terms-lt (λ j. Laws.product-lt (firsts j) (f j))
 
-  first-three : bitXor (bitXor q (bitAnd (pack 10 f) 17732991195021375)) (bitAnd (pack 10 g) 1134911436481368000) ≡ pack 10 with-seconds
+  first-three : bitXor (bitXor q (bitAnd (pack 10 f) moreFirst)) (bitAnd (pack 10 g) moreSecond) ≡ pack 10 with-seconds
   unfolding with-seconds bit pack
   first-three =
-      ap₂ bitXor first-two (masked 594 1134911436481368000 refl g gs)
+      ap₂ bitXor first-two (masked 594 moreSecond refl g gs)
       ∙ Lanes.xor-pack 10 with-firsts (λ j. product (seconds j) (g j)) firsts-lt (λ j. Laws.product-lt (seconds j) (g j))
 
-  joined : bitXor (bitXor (bitXor q (bitAnd (pack 10 f) 17732991195021375)) (bitAnd (pack 10 g) 1134911436481368000)) (pack 10 h)
+  joined : bitXor (bitXor (bitXor q (bitAnd (pack 10 f) moreFirst)) (bitAnd (pack 10 g) moreSecond)) (pack 10 h)
       ≡ pack 10 (λ j. sum (product (f j) (power (point j) 42)) (sum (product (g j) (power (point j) 21)) (h j)))
   unfolding terms-shared with-firsts with-seconds
   joined =
@@ -211,7 +221,7 @@ unfolding valuesOf
 other-length w d = sym (ap (λ (b : Bool). cond b (pack 10 (value w)) 0) (ne-eqb (length w) 63 d))
 
 module _ (w parts : List ℕ) (k q : ℕ) (l : length w ≡ 63) (p : PartsTo w parts k) (h : 3 ≤ k)
-    (e : q ≡ pack 10 (λ j. product (lane 1079465052537102075 j) (lane (bitXor (getD parts 0 0) (getD parts 1 0)) j))) where
+    (e : q ≡ pack 10 (λ j. product (lane sharedPowers j) (lane (bitXor (getD parts 0 0) (getD parts 1 0)) j))) where
   abbrev a : List ℕ
   a = run w 0 0 21
 
@@ -228,13 +238,13 @@ module _ (w parts : List ℕ) (k q : ℕ) (l : length w ≡ 63) (p : PartsTo w p
       ∙ ap (sum (product (value a j) (power (point j) (length (b ++ c))))) (sym (value-append b c j)) ∙ sym (value-append a (b ++ c) j)
       ∙ ap (λ (us : List ℕ). value us j) (three-parts w l)
 
-  pub values-joined : bitXor (bitXor (bitXor q (bitAnd (getD parts 0 0) 17732991195021375)) (bitAnd (getD parts 1 0) 1134911436481368000)) (getD parts 2 0) ≡ valuesOf w
+  pub values-joined : bitXor (bitXor (bitXor q (bitAnd (getD parts 0 0) moreFirst)) (bitAnd (getD parts 1 0) moreSecond)) (getD parts 2 0) ≡ valuesOf w
   values-joined =
       let f : getD parts 0 0 ≡ pack 10 (value a) = p .passed 0 (omega arith) in
       let g : getD parts 1 0 ≡ pack 10 (value b) = p .passed 1 (omega arith) in
       ap₂ bitXor
-      (ap₂ (λ (x y : ℕ). bitXor (bitXor q (bitAnd x 17732991195021375)) (bitAnd y 1134911436481368000)) f g) (p .passed 2 (omega arith))
+      (ap₂ (λ (x y : ℕ). bitXor (bitXor q (bitAnd x moreFirst)) (bitAnd y moreSecond)) f g) (p .passed 2 (omega arith))
       ∙ joined (value a) (value b) (value c) (value-lt a) (value-lt b) (value-lt c) q
-      (e ∙ ap₂ (λ (x y : ℕ). pack 10 (λ j. product (lane 1079465052537102075 j) (lane (bitXor x y) j))) f g)
+      (e ∙ ap₂ (λ (x y : ℕ). pack 10 (λ j. product (lane sharedPowers j) (lane (bitXor x y) j))) f g)
       ∙ Lanes.pack-same 10 (λ j. sum (product (value a j) (power (point j) 42)) (sum (product (value b j) (power (point j) 21)) (value c j))) (value w) (λ j _. value-parts j)
       ∙ sym (whole-values w l)

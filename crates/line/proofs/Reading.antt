@@ -209,7 +209,7 @@ module _ (w d : List ℕ) (t : ℕ) (es : ErrorSums w d) (long : length w ≡ 63
 -- ---- the output
 
 -- 63 bytes copied over 63
-copied : (line old new : List ℕ) → length line ≡ 63 → length old ≡ 63 → new ≡ take (length line) line ++ drop (length line) old → new ≡ line
+pub copied : (line old new : List ℕ) → length line ≡ 63 → length old ≡ 63 → new ≡ take (length line) line ++ drop (length line) old → new ≡ line
 copied line old new l room e =
     e
     ∙ ap₂ (λ (x y : List ℕ). x ++ y) (take-all (length line) line (omega arith)) (ap (λ (k : ℕ). drop k old) (l ∙ sym room) ∙ drop-length old)

@@ -119,7 +119,7 @@ pub fn plain(reading: LineReading) -> PlainReading
 }
 
 // The sums of what a word and any line differ by, as a line has those of the marks.
-fn error_sums(word: &[u8]) -> Sums
+pub fn error_sums(word: &[u8]) -> Sums
     ensures { λ r. ⌜ ErrorSums (now (word .entry)) (eleven r) ⌝ }
 {
     sums::eleven_added(sums::eleven_sums(word), sums::packed(code::mark_sums()))

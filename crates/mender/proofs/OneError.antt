@@ -129,7 +129,7 @@ module _ (s : List ℕ) (x y l : ℕ) (small : (k : ℕ) → k < 11 → getD s k
 -- ---- as the code has them
 
 -- the ten after the first, in lanes
-after-first : (h : Sums) → h .first / 64 % 18014398509481984 + h .last % 64 * 18014398509481984 ≡ pack 10 (λ k. getD (eleven h) (suc k) 0)
+pub after-first : (h : Sums) → h .first / 64 % 18014398509481984 + h .last % 64 * 18014398509481984 ≡ pack 10 (λ k. getD (eleven h) (suc k) 0)
 after-first h =
     ap₂ (λ (a b : ℕ). a + b * 18014398509481984)
     (pack-lanes 9 (h .first / 64)

@@ -30,8 +30,8 @@ use Rattle.sums.proofs.Holding.{eleven-first, eleven-last, eleven-long, eleven-
 use Rattle.mender.specs.declared.Mended.{Mended}
 use Rattle.mender.specs.declared.Single.{Single}
 use Rattle.mender.specs.Mender.{Fits, MendsTo, Mends, Nearest, HasSums}
-use Rattle.mender.specs.Inside.{Nothing}
-use Rattle.mender.specs.Found.{lone, OneError, ElementsTo, Clear, Repairs, Without, sixth}
+use Rattle.mender.specs.Inside.{Nothing, Agree}
+use Rattle.mender.specs.Found.{lone, OneError, ElementsTo, Clear, Repairs, Without, Corrects, sixth}
 use Rattle.mender.proofs.OneError.{lone-long, lone-here, lone-other, lone-weight, weight-nothing, sums-nothing}
 use Rattle.mender.proofs.Finding.{true-false, found-none, none-near, one-near, nearest-none, mended}
 
@@ -90,13 +90,13 @@ last-not h d = tells-no (λ z. d (sym (eleven-last h) ∙ z .zero 10 (omega arit
 pub zero-all : (h : Sums) → h .first % 1152921504606846976 ≡ 0 → h .last % 64 ≡ 0 → Tells (Clear (eleven h)) true
 zero-all h f l = tells-yes (sums-zero h f l)
 
-nothing-fits : (s : List ℕ) (e : ℕ) → Clear s → Fits s 11 e (replicate 63 0)
-nothing-fits s e z =
+nothing-fits : (s : List ℕ) (c e : ℕ) → ((k : ℕ) → k < c → getD s k 0 ≡ 0) → Fits s c e (replicate 63 0)
+nothing-fits s c e z =
     record {
       long = refl;
       characters = λ a. subst (λ (v : ℕ). v < 64) (sym (zero-get 63 a)) (omega arith);
       light = le-trans (le-of-eq (weight-nothing 63)) (omega arith);
-      sums = λ k l. z .zero k l ∙ sym (sums-nothing (58 + k));
+      sums = λ k l. z k l ∙ sym (sums-nothing (58 + k));
     }
 
 -- ---- the ways out of the repair
@@ -116,7 +116,7 @@ repairs-by s w r x e k i j long fits weighs g ends =
 
 pub repairs-none : (s w r : List ℕ) (e : ℕ) (b : Bool) → length w ≡ 63 → Tells (Clear s) b → b ≡ true → r ≡ added w (replicate 63 0)
     → Repairs s w e (record { found = true; weight = 0; first = 63; last = 63; word = r })
-repairs-none s w r e b long t q g = repairs-by s w r (replicate 63 0) e 0 63 63 long (nothing-fits s e (t .holds q)) (sym (weight-nothing 63)) g ends-none
+repairs-none s w r e b long t q g = repairs-by s w r (replicate 63 0) e 0 63 63 long (nothing-fits s 11 e (t .holds q .zero)) (sym (weight-nothing 63)) g ends-none
 
 lighter : (s : List ℕ) (e : ℕ) (w : List ℕ) → 0 < e → Fits s 11 1 w → Fits s 11 e w
 lighter s e w h f = record { long = f .long; characters = f .characters; light = (let l = f .light in omega arith); sums = f .sums }
@@ -249,6 +249,36 @@ sixth-zero x h p v ep ev z = tells-yes (sym (sixth-is x h (h .first / 1073741824
 
 pub mended-eleven : (s : List ℕ) (e x : ℕ) (m : Mended) → x ≡ min e 5 → MendsTo s 11 x m → Mends s 11 e m
 mended-eleven s e x m q f = subst (λ (k : ℕ). MendsTo s 11 k m) q f
+
+-- ---- the first c of them
+
+module _ (h : Sums) (s z : List ℕ) (c e x : ℕ) (b : Bool) (ex : x ≡ min c 11) (es : s ≡ eleven h) (t : Tells (Agree s z x) b) where
+  pub first-none : z ≡ replicate 11 0 → b ≡ true → Mends (eleven h) c e (record { found = true; weight = 0; first = 63; last = 63; word = replicate 63 0 })
+  first-none ez q =
+      mended (eleven h) c e x (min e (x / 2)) (record { found = true; weight = 0; first = 63; last = 63; word = replicate 63 0 }) ex refl
+      (record {
+        fits = λ _.
+            nothing-fits (eleven h) x (min e (x / 2))
+            (λ k l. ap (λ (u : List ℕ). getD u k 0) (sym es) ∙ t .holds q k l ∙ ap (λ (u : List ℕ). getD u k 0) ez ∙ zero-get 11 k);
+        weighs = λ _. sym (weight-nothing 63);
+        ends = λ _. ends-none;
+        none = λ f. absurd (true-false f);
+        no-weight = λ f. absurd (true-false f);
+        no-first = λ f. absurd (true-false f);
+        no-last = λ f. absurd (true-false f);
+        no-word = λ f. absurd (true-false f);
+      })
+
+pub first-found : (s : List ℕ) (c e x y : ℕ) (m : Mended) → x ≡ min c 11 → y ≡ min e (x / 2) → MendsTo s x y m → Mends s c e m
+first-found s c e x y m = mended s c e x y m
+
+-- ---- errors added
+
+pub corrects-other : (w x : List ℕ) → (length w ≡ 63 → ⊥) → Corrects w x x
+corrects-other w x d = record { whole = λ l. absurd (d l); other = λ _. refl }
+
+pub corrects-whole : (w x r : List ℕ) → length w ≡ 63 → r ≡ added w x → Corrects w x r
+corrects-whole w x r l e = record { whole = λ _. e; other = λ d. absurd (d l) }
 
 -- ---- mend
 

@@ -21,7 +21,7 @@ use Rattle.code.proofs.Sums.{places, places-good, values-63, powerSum-moment, p
 use Rattle.mender.specs.declared.Mended.{Mended}
 use Rattle.mender.specs.Mender.{Fits, Mends, Word, Nearest, HasSums, NearestWith, NearestClean}
 use Rattle.mender.specs.Inside.{Nothing}
-use Rattle.mender.specs.Found.{Repairs, Without}
+use Rattle.mender.specs.Found.{Repairs, Without, Corrects}
 
 -- one word at most fits, where the errors are at most half the sums
 pub one-fits : (s : List ℕ) (c e : ℕ) (u v : List ℕ) → e + e ≤ c → Fits s c e u → Fits s c e v → u ≡ v
@@ -93,6 +93,10 @@ pub one-without : (s w : List ℕ) (e : ℕ) (m n : Mended) → Without s w e m 
 one-without s w e m n p q =
     ⊎-elim (λ l. one-repair s w (min e 5) m n (omega arith) (p .whole l) (q .whole l)) (λ d. one-nothing m n (p .other d) (q .other d))
     (same-or-not (length w) 63)
+
+-- and any two words with errors added
+pub one-corrected : (w x r s : List ℕ) → Corrects w x r → Corrects w x s → r ≡ s
+one-corrected w x r s p q = ⊎-elim (λ l. p .whole l ∙ sym (q .whole l)) (λ d. p .other d ∙ sym (q .other d)) (same-or-not (length w) 63)
 
 -- any two answers of looking for the nearest word are equal, where one word at most has the property within the distance
 pub one-nearest : (P : List ℕ → Type 0) (w : List ℕ) (e : ℕ) (m n : Mended)

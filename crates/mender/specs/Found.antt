@@ -55,6 +55,11 @@ pub record Without (s w : List ℕ) (e : ℕ) (m : Mended) : Type 0 where
   pub whole : length w ≡ 63 → Repairs s w (min e 5) m
   pub other : (length w ≡ 63 → ⊥) → Nothing m
 
+-- errors added to a word of 63 characters; beside another they stand alone
+pub record Corrects (w x r : List ℕ) : Type 0 where
+  pub whole : length w ≡ 63 → r ≡ added w x
+  pub other : (length w ≡ 63 → ⊥) → r ≡ x
+
 -- the sixth window, combined with the coefficients of a packed row, which stand after five lanes
 unfoldable pub sixth : ℕ → List ℕ → ℕ
 sixth x s = total 6 (λ k. product (lane x (5 + k)) (getD s (5 + k) 0))

@@ -7,7 +7,7 @@ ghost use Rattle.refusal.specs.Promise.{Tells};
 ghost use Rattle.code.specs.Word.{added};
 ghost use Rattle.sums.specs.Held.{eleven};
 ghost use Rattle.mender.specs.Mender.{MendsTo, Mends, NearestWith, NearestClean};
-ghost use Rattle.mender.specs.Found.{lone, OneError, ElementsTo, Clear, Repairs, Without, sixth};
+ghost use Rattle.mender.specs.Found.{lone, OneError, ElementsTo, Clear, Repairs, Without, Corrects, sixth};
 ghost use Rattle.mender.specs.Inside.{Agree, Nothing};
 use lanes::FIVE_LANES;
 use lanes::NINE_LANES;
@@ -55,6 +55,23 @@ pub fn mend_eleven(sums: Sums, e: usize) -> Mended
     ensures { λ r. ⌜ Mends (eleven sums) 11 e r ⌝ }
 {
     find(sums, 11, least(e, 5))
+}
+
+// The same from the first c of these sums, as `mend` counts c and e. No error is told at once.
+pub fn mend_first(sums: Sums, c: usize, e: usize) -> Mended
+    ensures { λ r. ⌜ Mends (eleven sums) c e r ⌝ }
+{
+    let most = least(c, 11);
+    if agree(sums::unpacked(sums), [0u8; 11], most) {
+        return Mended {
+            found: true,
+            weight: 0,
+            first: NOWHERE,
+            last: NOWHERE,
+            word: [0u8; 63],
+        };
+    }
+    find(sums, most, least(e, most / 2))
 }
 
 // The word with these power sums within e of a word: e counts up to 5.
@@ -271,6 +288,16 @@ fn word_added(word: &[u8], pattern: [u8; 63]) -> [u8; 63]
         a += 1;
     }
     r
+}
+
+// A word of 63 characters with errors added; to another nothing is added, and the errors stand alone.
+pub fn corrected(word: &[u8], errors: [u8; 63]) -> [u8; 63]
+    ensures { λ r. ⌜ Corrects (now (word .entry)) errors r ⌝ }
+{
+    if word.len() != 63 {
+        return errors;
+    }
+    word_added(word, errors)
 }
 
 // The one error whose sums these are, if it is one: then each sum is the one before it times the place, and S_0 is the value.

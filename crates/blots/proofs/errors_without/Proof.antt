@@ -1,0 +1,11 @@
+-- `blots::errors_without` meets its contract: what the mender finds from the first c sums, up to half as many.
+use borrow.Author.Needs.{needs}
+use Rattle.blots.proofs.Finding.{without}
+use Rattle.blots.proofs.errors_without.Statement.{statement}
+use Rattle.blots.proofs.errors_without.Tie as tie
+
+returns : tie.Need-returns
+returns c = search (without, needs)
+
+pub errors-without-spec : {M : Type 1} → statement M
+errors-without-spec = tie.close (tie.spec (λ c κs. search needs) returns)

@@ -153,14 +153,14 @@ few-enough m n e h = omega arith
 pub none-before : (m : List ℕ) → NoneBefore m 0
 none-before m = record { zero = λ k h. absurd (omega arith) }
 
-module _ (w m d : List ℕ) (r : Errors) (es : ErrorSums w d) (finds : Finds d 11 m r) where
+module _ (w m d : List ℕ) (es : ErrorSums w d) where
   sum-is : (k : ℕ) → k < 11 → getD d k 0 ≡ sum (powerSum (58 + k) w) (powerSum (58 + k) marks)
   sum-is k h =
       ap (λ (s : List ℕ). getD s k 0) (es .both)
       ∙ added-get (es .ofWord) (es .ofMarks) (es .word-sums .long ∙ sym (es .mark-sums .long)) k
       ∙ ap₂ sum (es .word-sums .sum-at k h) (es .mark-sums .sum-at k h)
 
-  line-with : length w ≡ 63 → Characters w → (x : List ℕ) → FitsBlotted d 11 m x → BlottedLine m w (added w x)
+  pub line-with : length w ≡ 63 → Characters w → (x : List ℕ) → FitsBlotted d 11 m x → BlottedLine m w (added w x)
   line-with long characters x f =
       let same : length w ≡ length x = long ∙ sym (f .long) in
       record {
@@ -186,8 +186,8 @@ module _ (w m d : List ℕ) (r : Errors) (es : ErrorSums w d) (finds : Finds d 1
         sums = λ k h. sum-is k h ∙ sym (powerSum-added (58 + k) w l same ∙ ap (sum (powerSum (58 + k) w)) (line-sums l (b .line) k h));
       }
 
-  pub found-near : FindsNear w m r
-  found-near =
+  pub found-near : (r : Errors) → Finds d 11 m r → FindsNear w m r
+  found-near r finds =
       record {
         long = λ q. finds .fits q .long;
         is = λ q long characters. line-with long characters (r .word) (finds .fits q);

@@ -5,3 +5,5 @@ pub mod Loops
 pub mod Restoring
 pub mod Finding
 pub mod Reading
+pub mod Eleven
+pub mod Theorems

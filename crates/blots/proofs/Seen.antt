@@ -4,7 +4,7 @@ use mathlib.Core.Logic.{⊎-elim}
 use mathlib.Core.List.{List, [], _∷_}
 use Prim.Native.Nat.{ℕ, zero, suc, _+_, _*_, _<_, _≤_}
 use native.Mathlib.Omega.{arith}
-use lib.ListN.{length, getD, set}
+use lib.ListN.{length, getD, set, replicate}
 use Rattle.field.specs.Field.{sum}
 use Rattle.field.proofs.Laws
 use Rattle.polynomial.specs.Sums.{weight, nonzero}
@@ -27,6 +27,14 @@ seen-added (zero ∷ m) (c ∷ u) [] = refl
 seen-added (suc b ∷ m) (c ∷ u) [] = refl
 seen-added (zero ∷ m) (c ∷ u) (d ∷ v) = cons refl (seen-added m u v)
 seen-added (suc b ∷ m) (c ∷ u) (d ∷ v) = cons (sym (Laws.sum-self 0)) (seen-added m u v)
+
+pub seen-long : (m x : List ℕ) → length m ≡ length x → length (seen m x) ≡ length x
+unfolding seen
+seen-long [] [] h = refl
+seen-long [] (c ∷ x) h = absurd (omega arith)
+seen-long (b ∷ m) [] h = absurd (omega arith)
+seen-long (zero ∷ m) (c ∷ x) h = ap suc (seen-long m x (omega arith))
+seen-long (suc b ∷ m) (c ∷ x) h = ap suc (seen-long m x (omega arith))
 
 -- a word has no more characters that are not 0 than are seen and blots hide
 pub weight-seen : (m x : List ℕ) → length m ≡ length x → weight x ≤ weight (seen m x) + weight m
@@ -64,6 +72,25 @@ seen-all [] (c ∷ x) h z = absurd (omega arith)
 seen-all (b ∷ m) [] h z = absurd (omega arith)
 seen-all (zero ∷ m) (c ∷ x) h z = cons refl (seen-all m x (omega arith) (λ k l. z (suc k) (omega arith)))
 seen-all (suc b ∷ m) (c ∷ x) h z = absurd (let e : suc b ≡ 0 = z 0 (omega arith) in omega arith)
+
+-- outside the blots a character is seen as it is
+pub seen-shown : (m x : List ℕ) (a : ℕ) → length m ≡ length x → getD m a 0 ≡ 0 → getD (seen m x) a 0 ≡ getD x a 0
+unfolding seen
+seen-shown [] [] a h e = refl
+seen-shown [] (c ∷ x) a h e = absurd (omega arith)
+seen-shown (b ∷ m) [] a h e = absurd (omega arith)
+seen-shown (zero ∷ m) (c ∷ x) zero h e = refl
+seen-shown (suc b ∷ m) (c ∷ x) zero h e = absurd (omega arith)
+seen-shown (zero ∷ m) (c ∷ x) (suc a) h e = seen-shown m x a (omega arith) e
+seen-shown (suc b ∷ m) (c ∷ x) (suc a) h e = seen-shown m x a (omega arith) e
+
+-- of zeros nothing is seen
+pub weight-seen-none : (m : List ℕ) (n : ℕ) → weight (seen m (replicate n 0)) ≡ 0
+unfolding seen weight nonzero
+weight-seen-none [] n = refl
+weight-seen-none (b ∷ m) zero = refl
+weight-seen-none (zero ∷ m) (suc n) = let r = weight-seen-none m n in omega arith
+weight-seen-none (suc b ∷ m) (suc n) = let r = weight-seen-none m n in omega arith
 
 pub weight-blank : (m : List ℕ) → ((k : ℕ) → k < length m → getD m k 0 ≡ 0) → weight m ≡ 0
 unfolding weight nonzero

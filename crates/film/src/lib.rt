@@ -5,6 +5,7 @@ ghost use Rattle.field.specs.Promises as Field;
 ghost use Rattle.encoder.specs.Promises as Encoder;
 ghost use Rattle.line.specs.Promises as Line;
 ghost use Rattle.line.specs.declared.Wanted.the-variants.{Any, Number};
+ghost use Rattle.blots.specs.Promises as Blots;
 ghost use Rattle.ring.specs.Promises as Ring;
 ghost use Rattle.block.specs.Promises as Block;
 ghost use Rattle.scans.specs.Promises as Scans;
@@ -184,6 +185,14 @@ pub extern "C" fn film_read_line_wanted(
     ensures { λ r. ⌜ Line.Reads (now (word .entry)) radius (Number wanted) (now (out .entry)) (Line.plainNumbers r) (now (out .exit)) ⌝ }
 {
     line::plain(line::read_line(word, radius, Wanted::Number(wanted), out))
+}
+
+// Reads a line with blots.
+#[no_mangle]
+pub extern "C" fn film_read_blotted(word: &[u8], map: &[u8], out: &mut [u8]) -> PlainReading
+    ensures { λ r. ⌜ Blots.ReadsBlotted (now (word .entry)) (now (map .entry)) (now (out .entry)) (Line.plainNumbers r) (now (out .exit)) ⌝ }
+{
+    line::plain(blots::read_blotted(word, map, out))
 }
 
 // The number of the answer of reading a spool.

@@ -9,10 +9,10 @@ use Rattle.numbers.proofs.Cases.{same-or-not}
 use Rattle.refusal.proofs.Laws.{one-refusal, refusal-positive, passed}
 use Rattle.refusal.proofs.Ladder.{_then_, denied}
 use Rattle.refusal.proofs.Theorems.{one-result, same-numbers}
-use Rattle.code.specs.Word.{Characters, Line, number, distance, nowhere, firstChanged, lastChanged}
+use Rattle.code.specs.Word.{Characters, Line, number, distance, nowhere, firstChanged, lastChanged, marks, added}
 use Rattle.code.proofs.Lines.{line-long}
 use Rattle.code.proofs.Changes.{First, Last}
-use Rattle.code.proofs.Theorems.{one-line-near, first-changed, last-changed, unchanged}
+use Rattle.code.proofs.Theorems.{one-line-near, first-changed, last-changed, unchanged, one-list-of-sums}
 use Rattle.mender.specs.declared.Mended.{Mended}
 use Rattle.mender.proofs.Theorems.{one-nearest}
 use Rattle.line.specs.declared.Wanted.{Wanted}
@@ -21,7 +21,7 @@ use Rattle.line.specs.declared.LineReading.{LineReading}
 use Rattle.line.specs.declared.LineReading.the-variants as R
 use Rattle.line.specs.declared.PlainReading.{PlainReading}
 use Rattle.line.specs.Promises.{readingNumbers, plainNumbers, Within, Readable, readingTests, told, ReadAs, Reads}
-use Rattle.line.specs.Inside.{NearestLine, Writes}
+use Rattle.line.specs.Inside.{NearestLine, ErrorSums, Writes}
 use Rattle.line.proofs.Reading.{refused, read}
 
 -- if a line lies within t it is the only one
@@ -29,7 +29,7 @@ pub one-within : (t : ℕ) (w l m : List ℕ) → length w ≡ 63 → t ≤ 5 �
 one-within t w l m long small p q = one-line-near w l m t long small (p .line) (q .line) (p .near) (q .near)
 
 -- the numbers fix the reading, and the plain one
-one-line-reading : (r s : LineReading) → readingNumbers r ≡ readingNumbers s → r ≡ s
+pub one-line-reading : (r s : LineReading) → readingNumbers r ≡ readingNumbers s → r ≡ s
 one-line-reading (R.Line n d f t) (R.Line m e g u) q =
     ap₂ (λ (x y : ℕ). R.Line x y f t) (ap (λ (l : List ℕ). getD l 1 0) q) (ap (λ (l : List ℕ). getD l 2 0) q)
     ∙ ap₂ (λ (x y : ℕ). R.Line m e x y) (ap (λ (l : List ℕ). getD l 3 0) q) (ap (λ (l : List ℕ). getD l 4 0) q)
@@ -133,6 +133,12 @@ module _ (w : List ℕ) (t : ℕ) (wanted : Wanted) (old : List ℕ) (n d f g : 
 pub one-nearest-line : (w : List ℕ) (t : ℕ) (m n : Mended) → NearestLine w t m → NearestLine w t n → m ≡ n
 one-nearest-line w t m n =
     one-nearest Line w (min t 5) m n (λ y u v f g a b. one-line-near w u v (min t 5) (y .long) (omega arith) f g a b)
+
+-- any two lists of the sums of what a word and a line differ by
+pub one-error-sums : (w d e : List ℕ) → ErrorSums w d → ErrorSums w e → d ≡ e
+one-error-sums w d e p q =
+    p .both ∙ ap₂ added (one-list-of-sums w (p .ofWord) (q .ofWord) (p .word-sums) (q .word-sums)) (one-list-of-sums marks (p .ofMarks) (q .ofMarks) (p .mark-sums) (q .mark-sums))
+    ∙ sym (q .both)
 
 -- and any two results of writing a line
 pub one-written : (line old x y : List ℕ) → Writes line old x → Writes line old y → x ≡ y

@@ -20,7 +20,7 @@ import pathlib
 from typing import NamedTuple, Optional
 
 # tools/tables writes this from version.txt, and the refusals below from refusals.txt.
-__version__ = "4.2.0"
+__version__ = "4.3.0"
 
 _u8 = ctypes.c_uint8
 _u16 = ctypes.c_uint16
@@ -38,12 +38,12 @@ PANEL = 294
 
 # The numbered answers, as the paper gives them; 0 is a success.
 REFUSALS = {
-    1: "a line or ring is not 63 long, a text is not 50 long, or a spool's length is no multiple of 63 or is over 16,065",
-    2: "a character (a register's too) or field operand is over 63, or a data row over 127",
+    1: "a line, a ring or a map of blots is not 63 long, a text is not 50 long, or a spool's length is no multiple of 63 or is over 16,065",
+    2: "a character (a register's too) or field operand is over 63, a data row over 127, or a byte of a map over 1",
     3: "radius over 5",
     4: "number over 4095",
     5: "output length differs from the one stated, or is under 294 for panel text",
-    6: "no line within the radius; for ring reading, an empty list",
+    6: "no line within the radius; for ring reading, an empty list; with blots, no such line",
     7: "the line found has another number than the wanted one",
     8: "block rows outside 2..64, or data rows outside 1..63",
     9: "no proper block within one bit",
@@ -269,7 +269,7 @@ def read_spool(lines, radius, out: Optional[bytearray] = None) -> "list[LineRead
     ...     else:
     ...         print(f"line {i}: number {read.number}")
     line 0: number 65
-    line 1: refused (6): no line within the radius; for ring reading, an empty list
+    line 1: refused (6): no line within the radius; for ring reading, an empty list; with blots, no such line
     line 2: number 67
     """
     lines = _bytes(lines)

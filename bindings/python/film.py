@@ -1,4 +1,4 @@
-"""The proved film reader: lines, spools of lines, rings, text for a panel and parity blocks, and the field and the register below them.
+"""The proved film reader: lines, with blots too, spools of lines, rings, text for a panel and parity blocks, and the field and the register below them.
 
 Every function takes whatever bytes and numbers it is handed. It gives back what it found, or raises Refused, which says by number why not.
 A character is a byte from 0 to 63, and a line is 63 of them.
@@ -163,6 +163,7 @@ def _load(path):
         ("checks", [_Register], _Checked),
         ("read_line", given + [_u8] + output, _Line),
         ("read_line_wanted", given + [_u8, _u16] + output, _Line),
+        ("read_blotted", given + given + output, _Line),
         ("read_spool", given + [_u8] + output, _Spool),
         ("better_scan", given + given + [_u8], _Choice),
         ("list_ring", given + [_u8] + output, _List),
@@ -199,13 +200,13 @@ def _bytes(given):
     return bytes(given)
 
 
-def _call(function, given, *numbers, room, out):
-    """Calls a function with an input, some numbers and an output: gives what it answers, and the output as it is then."""
+def _call(function, given, *others, room, out):
+    """Calls a function with an input, what it takes besides and an output: gives what it answers, and the output as it is then."""
     given = _bytes(given)
     if out is None:
         out = bytearray(room)
     lent = (_u8 * len(out)).from_buffer(out)
-    result = function(given, len(given), *numbers, lent, len(out))
+    result = function(given, len(given), *others, lent, len(out))
     answer = result if isinstance(result, int) else result.answer
     if answer:
         raise Refused(answer)
@@ -253,6 +254,27 @@ def read_line(word, radius, wanted=None, out: Optional[bytearray] = None) -> Lin
         result, line = _call(_library.film_read_line, word, _byte(radius), room=63, out=out)
     else:
         result, line = _call(_library.film_read_line_wanted, word, _byte(radius), _bounded(wanted, 65535), room=63, out=out)
+    return _line_read(result, line)
+
+
+def read_blotted(word, map, out: Optional[bytearray] = None) -> LineRead:
+    """A line with blots, the characters that the scanner could not see: the map, 63 bytes, has 1 for a blot and 0 for none. With f blots it is the line that
+    differs from the 63 characters in e of them outside the blots, 2e + f at most 11; there is never a second one. What stands at a blot, a character too, has
+    no say in which line that is; the distance and the changed addresses count it as any other. With no blot it is read_line with radius 5.
+
+    >>> line = encode_line(bytes(50), 65)
+    >>> word, map = bytearray(line), bytearray(63)
+    >>> for a in range(20, 29):
+    ...     word[a], map[a] = 63, 1
+    >>> word[62] ^= 1
+    >>> read = read_blotted(word, map)
+    >>> read.line == line
+    True
+    >>> read.number, read.distance, read.first, read.last
+    (65, 10, 20, 62)
+    """
+    map = _bytes(map)
+    result, line = _call(_library.film_read_blotted, word, map, len(map), room=63, out=out)
     return _line_read(result, line)
 
 

@@ -1,4 +1,4 @@
-"""Tests of film.py: what each function gives, every refusal by its number, and outputs that stay as they were."""
+"""Tests of film.py, but for blots: what each function gives, every refusal by its number, and outputs that stay as they were."""
 
 import doctest
 import itertools

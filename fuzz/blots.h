@@ -1,4 +1,4 @@
-/* The call of reading a line with blots: its answer and every byte of output held against the rules, film_read_line, and the map with one blot fewer or more. */
+/* The call of reading a line with blots: its answer and every byte of output, held against the rules, film_read_line, and a map with one blot fewer or more. */
 #ifndef BLOTS_H
 #define BLOTS_H
 

@@ -38,7 +38,7 @@ uint32_t film_version(void);
 
 enum {
     FILM_DONE = 0,
-    FILM_INPUT_LENGTH = 1,      /* a line, a ring or a map of blots is not 63 long, a text is not 50 long, or a spool's length is no multiple of 63 or is over 16,065 */
+    FILM_INPUT_LENGTH = 1,      /* a line, ring or map of blots is not 63 long, a text is not 50 long, or a spool's length is no multiple of 63 or is over 16,065 */
     FILM_VALUE_OVER = 2,        /* a character (a register's too) or field operand is over 63, a data row over 127, or a byte of a map over 1 */
     FILM_RADIUS_OVER = 3,       /* radius over 5 */
     FILM_NUMBER_OVER = 4,       /* number over 4095 */

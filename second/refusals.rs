@@ -3,7 +3,7 @@
 // A number that no rule here answers is no mistake.
 #![allow(dead_code)]
 
-/// A line, a ring or a map of blots is not 63 long, a text is not 50 long, or a spool's length is no multiple of 63 or is over 16,065.
+/// A line, ring or map of blots is not 63 long, a text is not 50 long, or a spool's length is no multiple of 63 or is over 16,065.
 pub const INPUT_LENGTH: u8 = 1;
 /// A character (a register's too) or field operand is over 63, a data row over 127, or a byte of a map over 1.
 pub const VALUE_OVER: u8 = 2;

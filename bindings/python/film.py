@@ -38,7 +38,7 @@ PANEL = 294
 
 # The numbered answers, as the paper gives them; 0 is a success.
 REFUSALS = {
-    1: "a line, a ring or a map of blots is not 63 long, a text is not 50 long, or a spool's length is no multiple of 63 or is over 16,065",
+    1: "a line, ring or map of blots is not 63 long, a text is not 50 long, or a spool's length is no multiple of 63 or is over 16,065",
     2: "a character (a register's too) or field operand is over 63, a data row over 127, or a byte of a map over 1",
     3: "radius over 5",
     4: "number over 4095",

@@ -6,7 +6,7 @@ use core::fmt;
 #[derive(Clone, Copy, Debug, PartialEq, Eq, Hash)]
 #[non_exhaustive]
 pub enum Refusal {
-    /// A line, a ring or a map of blots is not 63 long, a text is not 50 long, or a spool's length is no multiple of 63 or is over 16,065.
+    /// A line, ring or map of blots is not 63 long, a text is not 50 long, or a spool's length is no multiple of 63 or is over 16,065.
     InputLength,
     /// A character (a register's too) or field operand is over 63, a data row over 127, or a byte of a map over 1.
     ValueOver,
@@ -95,7 +95,7 @@ impl Refusal {
 impl fmt::Display for Refusal {
     fn fmt(&self, f: &mut fmt::Formatter<'_>) -> fmt::Result {
         let why = match self {
-            Refusal::InputLength => "a line, a ring or a map of blots is not 63 long, a text is not 50 long, or a spool's length is no multiple of 63 or is over 16,065",
+            Refusal::InputLength => "a line, ring or map of blots is not 63 long, a text is not 50 long, or a spool's length is no multiple of 63 or is over 16,065",
             Refusal::ValueOver => "a character (a register's too) or field operand is over 63, a data row over 127, or a byte of a map over 1",
             Refusal::RadiusOver => "radius over 5",
             Refusal::NumberOver => "number over 4095",

@@ -4,7 +4,7 @@ use Rattle.refusal.specs.declared.Refusal.{Refusal}
 use Rattle.refusal.specs.declared.Refusal.the-variants.{InputLength, ValueOver, RadiusOver, NumberOver, OutputLength, NoLine, OtherNumber, RowCount, NoBlock, ManyStarts, RegisterFull, RegisterShort, QuotientByZero, Template, UnknownKind}
 
 abbrev pub numberOf : Refusal → ℕ
--- a line, a ring or a map of blots is not 63 long, a text is not 50 long, or a spool's length is no multiple of 63 or is over 16,065
+-- a line, ring or map of blots is not 63 long, a text is not 50 long, or a spool's length is no multiple of 63 or is over 16,065
 numberOf InputLength = 1
 -- a character (a register's too) or field operand is over 63, a data row over 127, or a byte of a map over 1
 numberOf ValueOver = 2

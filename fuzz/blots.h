@@ -41,6 +41,12 @@ static int free_address(const made *m, const uint8_t *map, int from, int is_chan
     return from;
 }
 
+/* Any address, the first or the last at times: what is passed over is most often an end. */
+static int take_address(void) {
+    uint8_t how = take();
+    return how < 224 ? how % FILM_CHARACTERS : how & 1 ? 0 : FILM_CHARACTERS - 1;
+}
+
 /* A map of up to thirteen blots, some aimed at changed characters, with any character at each; or any map. At times one byte is set to anything. */
 static void take_map(made *m, uint8_t *map) {
     uint8_t how = take(), aimed = take(), poke = take();
@@ -49,12 +55,12 @@ static void take_map(made *m, uint8_t *map) {
             map[a] = take() & 1;
     else
         for (int i = 0; i < how % 14; i++) {
-            int a = free_address(m, map, take() % FILM_CHARACTERS, m->is_made && aimed >> i % 8 & 1);
+            int a = free_address(m, map, take_address(), m->is_made && aimed >> i % 8 & 1);
             m->word[a] ^= take() & 63;
             map[a] = 1;
         }
-    if (poke > 239)
-        map[poke % FILM_CHARACTERS] = take();
+    if (poke > 223)
+        map[take_address()] = take();
 }
 
 /* The refusal that needs no reading, or 0. */

@@ -97,6 +97,8 @@ film_line __wrap_film_read_blotted(const uint8_t *word, size_t word_len, const u
 #elif FAULT == 27 /* any byte at a blot is a character */
         for (int a = 0; a < FILM_CHARACTERS; a++)
             seen[a] &= map[a] == 1 ? 63 : 255;
+#elif FAULT == 32 /* whether the last byte of a map is over 1 is not looked at */
+        blots[FILM_CHARACTERS - 1] &= 1;
 #endif
         word = seen, map = blots;
     }

@@ -47,16 +47,16 @@ static int take_address(void) {
     return how < 224 ? how % FILM_CHARACTERS : how & 1 ? 0 : FILM_CHARACTERS - 1;
 }
 
-/* A map of up to thirteen blots, some aimed at changed characters, with any character at each; or any map. At times one byte is set to anything. */
+/* A map of up to thirteen blots, some aimed at changed characters, some with another character at them; or any map. At times one byte is set to anything. */
 static void take_map(made *m, uint8_t *map) {
-    uint8_t how = take(), aimed = take(), poke = take();
+    uint8_t how = take(), aimed = take(), spoilt = take(), poke = take();
     if (how > 247)
         for (int a = 0; a < FILM_CHARACTERS; a++)
             map[a] = take() & 1;
     else
         for (int i = 0; i < how % 14; i++) {
             int a = free_address(m, map, take_address(), m->is_made && aimed >> i % 8 & 1);
-            m->word[a] ^= take() & 63;
+            m->word[a] ^= spoilt >> i % 8 & 1 ? take() & 63 : 0;
             map[a] = 1;
         }
     if (poke > 223)

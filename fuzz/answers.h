@@ -18,12 +18,12 @@ static void fail(const char *file, int line, const char *fact) {
 
 enum {
     SUM, PRODUCT, QUOTIENT, ENCODE_LINE, STEP, CHECKS, READ_LINE, READ_LINE_WANTED, LIST_RING, READ_RING, ENCODE_BLOCK, READ_BLOCK, BETTER_SCAN,
-    PANEL_TEXT, PANEL_RING, READ_SPOOL, PLACE_OF_SPOOL, CALLS
+    PANEL_TEXT, PANEL_RING, READ_SPOOL, PLACE_OF_SPOOL, READ_BLOTTED, CALLS
 };
 
 static const char *const names[CALLS] = {"sum", "product", "quotient", "encode_line", "step", "checks", "read_line", "read_line_wanted",
                                          "list_ring", "read_ring", "encode_block", "read_block", "better_scan", "panel_text", "panel_ring",
-                                         "read_spool", "place of read_spool"};
+                                         "read_spool", "place of read_spool", "read_blotted"};
 
 /* Bit n stands for answer n. */
 #define CAN(n) (UINT64_C(1) << (n))
@@ -46,6 +46,7 @@ static const uint64_t can_give[CALLS] = {
     CAN(0) | CAN(1) | CAN(5) | CAN(2) | CAN(3) | CAN(6) | CAN(10) | CAN(14) | CAN(15),
     CAN(0) | CAN(1) | CAN(5),
     CAN(0) | CAN(2) | CAN(3) | CAN(6),
+    CAN(0) | CAN(1) | CAN(5) | CAN(2) | CAN(6),
 };
 
 static unsigned long given[CALLS][FILM_LAST_REFUSAL + 1];

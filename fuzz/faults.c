@@ -7,6 +7,7 @@
 film_element __real_film_product(uint8_t u, uint8_t v);
 film_element __real_film_quotient(uint8_t u, uint8_t v);
 film_line __real_film_read_line(const uint8_t *word, size_t word_len, uint8_t radius, uint8_t *out, size_t out_len);
+film_line __real_film_read_blotted(const uint8_t *word, size_t word_len, const uint8_t *map, size_t map_len, uint8_t *out, size_t out_len);
 film_spool __real_film_read_spool(const uint8_t *lines, size_t lines_len, uint8_t radius, uint8_t *out, size_t out_len);
 film_choice __real_film_better_scan(const uint8_t *first, size_t first_len, const uint8_t *second, size_t second_len, uint8_t radius);
 film_list __real_film_list_ring(const uint8_t *ring, size_t ring_len, uint8_t radius, uint8_t *out, size_t out_len);
@@ -48,6 +49,76 @@ film_line __wrap_film_read_line(const uint8_t *word, size_t word_len, uint8_t ra
 #elif FAULT == 12 /* the last changed address is that of the last but one */
     if (r.answer == FILM_DONE && r.distance == 2)
         r.last = r.first;
+#endif
+    return r;
+}
+
+/* What some faults of blots count: the blots of a map, and the addresses outside them at which two words differ. */
+__attribute__((unused)) static int blots_of(const uint8_t *map) {
+    int n = 0;
+    for (int a = 0; a < FILM_CHARACTERS; a++)
+        n += map[a] == 1;
+    return n;
+}
+
+__attribute__((unused)) static int outside(const uint8_t *map, const uint8_t *one, const uint8_t *other) {
+    int n = 0;
+    for (int a = 0; a < FILM_CHARACTERS; a++)
+        n += map[a] == 0 && one[a] != other[a];
+    return n;
+}
+
+/* Takes the last blot off a map that has so many. */
+__attribute__((unused)) static void trust_last(uint8_t *map, int blots) {
+    int a = FILM_CHARACTERS - 1;
+    if (blots_of(map) != blots)
+        return;
+    while (map[a] != 1)
+        a--;
+    map[a] = 0;
+}
+
+film_line __wrap_film_read_blotted(const uint8_t *word, size_t word_len, const uint8_t *map, size_t map_len, uint8_t *out, size_t out_len) {
+    uint8_t seen[FILM_CHARACTERS], blots[FILM_CHARACTERS];
+#if FAULT == 23 /* one byte too many is read of the map */
+    if (map_len != 0)
+        (void)((const volatile uint8_t *)map)[map_len];
+#endif
+    if (word_len == FILM_CHARACTERS && map_len == FILM_CHARACTERS) {
+        memcpy(seen, word, sizeof seen);
+        memcpy(blots, map, sizeof blots);
+#if FAULT == 24 /* the last of eleven blots is trusted */
+        trust_last(blots, FILM_CHECKS);
+#elif FAULT == 25 /* the last of twelve blots is trusted */
+        trust_last(blots, FILM_CHECKS + 1);
+#elif FAULT == 26 /* any byte of a map but 0 is a blot */
+        for (int a = 0; a < FILM_CHARACTERS; a++)
+            blots[a] = map[a] != 0;
+#elif FAULT == 27 /* any byte at a blot is a character */
+        for (int a = 0; a < FILM_CHARACTERS; a++)
+            seen[a] &= map[a] == 1 ? 63 : 255;
+#elif FAULT == 32 /* whether the last byte of a map is over 1 is not looked at */
+        blots[FILM_CHARACTERS - 1] &= 1;
+#endif
+        word = seen, map = blots;
+    }
+    film_line r = __real_film_read_blotted(word, word_len, map, map_len, out, out_len);
+#if FAULT == 28 /* the distance counts no blots */
+    if (r.answer == FILM_DONE)
+        r.distance = (uint8_t)outside(map, word, out);
+#elif FAULT == 29 /* e + f at most 11, of the lines within five */
+    uint8_t line[FILM_CHARACTERS];
+    if (r.answer == FILM_NO_LINE && __real_film_read_line(word, word_len, 5, line, sizeof line).answer == FILM_DONE &&
+        outside(map, word, line) + blots_of(map) <= FILM_CHECKS)
+        r = __real_film_read_line(word, word_len, 5, out, out_len);
+#elif FAULT == 30 /* 2e + f at most 10 */
+    if (r.answer == FILM_DONE && 2 * outside(map, word, out) + blots_of(map) == FILM_CHECKS) {
+        memset(out, 170, FILM_CHARACTERS);
+        r = (film_line){FILM_NO_LINE, 0, 0, 0, 0};
+    }
+#elif FAULT == 31 /* a refusal that clears the blots in the output */
+    for (int a = 0; r.answer == FILM_NO_LINE && a < FILM_CHARACTERS; a++)
+        out[a] = map[a] == 1 ? 0 : out[a];
 #endif
     return r;
 }

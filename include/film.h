@@ -25,7 +25,7 @@ extern "C" {
 /* ---- The version of this header. tools/tables writes its three numbers from version.txt. */
 
 #define FILM_VERSION_MAJOR 4
-#define FILM_VERSION_MINOR 2
+#define FILM_VERSION_MINOR 3
 #define FILM_VERSION_PATCH 0
 #define FILM_VERSION (1000000 * FILM_VERSION_MAJOR + 1000 * FILM_VERSION_MINOR + FILM_VERSION_PATCH)
 
@@ -38,12 +38,12 @@ uint32_t film_version(void);
 
 enum {
     FILM_DONE = 0,
-    FILM_INPUT_LENGTH = 1,      /* a line or ring is not 63 long, a text is not 50 long, or a spool's length is no multiple of 63 or is over 16,065 */
-    FILM_VALUE_OVER = 2,        /* a character (a register's too) or field operand is over 63, or a data row over 127 */
+    FILM_INPUT_LENGTH = 1,      /* a line, ring or map of blots is not 63 long, a text is not 50 long, or a spool's length is no multiple of 63 or is over 16,065 */
+    FILM_VALUE_OVER = 2,        /* a character (a register's too) or field operand is over 63, a data row over 127, or a byte of a map over 1 */
     FILM_RADIUS_OVER = 3,       /* radius over 5 */
     FILM_NUMBER_OVER = 4,       /* number over 4095 */
     FILM_OUTPUT_LENGTH = 5,     /* output length differs from the one stated, or is under 294 for panel text */
-    FILM_NO_LINE = 6,           /* no line within the radius; for ring reading, an empty list */
+    FILM_NO_LINE = 6,           /* no line within the radius; for ring reading, an empty list; with blots, no such line */
     FILM_OTHER_NUMBER = 7,      /* the line found has another number than the wanted one */
     FILM_ROW_COUNT = 8,         /* block rows outside 2..64, or data rows outside 1..63 */
     FILM_NO_BLOCK = 9,          /* no proper block within one bit */
@@ -60,7 +60,7 @@ enum {
 
 enum {
     FILM_TEXT = 50,       /* the text of a line */
-    FILM_CHARACTERS = 63, /* a line, a ring, and the output of encoding and reading them */
+    FILM_CHARACTERS = 63, /* a line, a ring, a map of blots, and the output of encoding and reading them */
     FILM_STARTS = 126,    /* the output of listing a ring */
     FILM_SPOOL = 16065,   /* the longest spool, 255 lines; the output of reading a spool is as long as the spool */
     FILM_PANEL = 294,     /* the least output of panel text, and the longest text for a panel */
@@ -131,6 +131,14 @@ film_line film_read_line(const uint8_t *word, size_t word_len, uint8_t radius, u
 
 /* The line must carry the wanted number. Refusals: 1, 5, 2, 3, 4, 6, 7. */
 film_line film_read_line_wanted(const uint8_t *word, size_t word_len, uint8_t radius, uint16_t wanted, uint8_t *out, size_t out_len);
+
+/* With a map of blots, the characters that the scanner could not see: 63 bytes, 1 for a blot and 0 for none. With f blots the
+ * line is the one that differs from the word in e characters outside them, 2e + f at most 11; there is never a second one. The
+ * word's character at a blot is still one from 0 to 63, and has no say in which line that is. The distance, up to 11, and the
+ * changed addresses count blots too. There is no radius and no wanted number: with no blot it is film_read_line with radius
+ * 5. Refusals: 1, 5, 2, 6. 1 and 2 are given for the map too, and 6 says that there is no such line: never with eleven
+ * blots, always with more. */
+film_line film_read_blotted(const uint8_t *word, size_t word_len, const uint8_t *map, size_t map_len, uint8_t *out, size_t out_len);
 
 /* ---- Reading a spool: up to 255 lines, one after the other, with one radius and no wanted numbers. places[i] is what
  * film_read_line answers for the 63 bytes from 63 * i on, and the 63 bytes of the output from there on are what it leaves

@@ -48,7 +48,7 @@ use std::fmt::Debug;
 use std::process::exit;
 
 /// The version that the library has to tell. tools/tables writes it from version.txt.
-const VERSION: u32 = 4002000;
+const VERSION: u32 = 4003000;
 
 /// Each call, and every answer that it can give. A spool's line is one of a spool that is read alone, by film_read_line.
 const ANSWERS: [(&str, &[u8]); 17] = [

@@ -3,9 +3,9 @@
 // A number that no rule here answers is no mistake.
 #![allow(dead_code)]
 
-/// A line or ring is not 63 long, a text is not 50 long, or a spool's length is no multiple of 63 or is over 16,065.
+/// A line, ring or map of blots is not 63 long, a text is not 50 long, or a spool's length is no multiple of 63 or is over 16,065.
 pub const INPUT_LENGTH: u8 = 1;
-/// A character (a register's too) or field operand is over 63, or a data row over 127.
+/// A character (a register's too) or field operand is over 63, a data row over 127, or a byte of a map over 1.
 pub const VALUE_OVER: u8 = 2;
 /// Radius over 5.
 pub const RADIUS_OVER: u8 = 3;
@@ -13,7 +13,7 @@ pub const RADIUS_OVER: u8 = 3;
 pub const NUMBER_OVER: u8 = 4;
 /// Output length differs from the one stated, or is under 294 for panel text.
 pub const OUTPUT_LENGTH: u8 = 5;
-/// No line within the radius; for ring reading, an empty list.
+/// No line within the radius; for ring reading, an empty list; with blots, no such line.
 pub const NO_LINE: u8 = 6;
 /// The line found has another number than the wanted one.
 pub const OTHER_NUMBER: u8 = 7;

@@ -1,4 +1,4 @@
-"""The proved film reader: lines, spools of lines, rings, text for a panel and parity blocks, and the field and the register below them.
+"""The proved film reader: lines, with blots too, spools of lines, rings, text for a panel and parity blocks, and the field and the register below them.
 
 Every function takes whatever bytes and numbers it is handed. It gives back what it found, or raises Refused, which says by number why not.
 A character is a byte from 0 to 63, and a line is 63 of them.
@@ -20,7 +20,7 @@ import pathlib
 from typing import NamedTuple, Optional
 
 # tools/tables writes this from version.txt, and the refusals below from refusals.txt.
-__version__ = "4.2.0"
+__version__ = "4.3.0"
 
 _u8 = ctypes.c_uint8
 _u16 = ctypes.c_uint16
@@ -38,12 +38,12 @@ PANEL = 294
 
 # The numbered answers, as the paper gives them; 0 is a success.
 REFUSALS = {
-    1: "a line or ring is not 63 long, a text is not 50 long, or a spool's length is no multiple of 63 or is over 16,065",
-    2: "a character (a register's too) or field operand is over 63, or a data row over 127",
+    1: "a line, ring or map of blots is not 63 long, a text is not 50 long, or a spool's length is no multiple of 63 or is over 16,065",
+    2: "a character (a register's too) or field operand is over 63, a data row over 127, or a byte of a map over 1",
     3: "radius over 5",
     4: "number over 4095",
     5: "output length differs from the one stated, or is under 294 for panel text",
-    6: "no line within the radius; for ring reading, an empty list",
+    6: "no line within the radius; for ring reading, an empty list; with blots, no such line",
     7: "the line found has another number than the wanted one",
     8: "block rows outside 2..64, or data rows outside 1..63",
     9: "no proper block within one bit",
@@ -163,6 +163,7 @@ def _load(path):
         ("checks", [_Register], _Checked),
         ("read_line", given + [_u8] + output, _Line),
         ("read_line_wanted", given + [_u8, _u16] + output, _Line),
+        ("read_blotted", given + given + output, _Line),
         ("read_spool", given + [_u8] + output, _Spool),
         ("better_scan", given + given + [_u8], _Choice),
         ("list_ring", given + [_u8] + output, _List),
@@ -199,13 +200,13 @@ def _bytes(given):
     return bytes(given)
 
 
-def _call(function, given, *numbers, room, out):
-    """Calls a function with an input, some numbers and an output: gives what it answers, and the output as it is then."""
+def _call(function, given, *others, room, out):
+    """Calls a function with an input, what it takes besides and an output: gives what it answers, and the output as it is then."""
     given = _bytes(given)
     if out is None:
         out = bytearray(room)
     lent = (_u8 * len(out)).from_buffer(out)
-    result = function(given, len(given), *numbers, lent, len(out))
+    result = function(given, len(given), *others, lent, len(out))
     answer = result if isinstance(result, int) else result.answer
     if answer:
         raise Refused(answer)
@@ -256,6 +257,27 @@ def read_line(word, radius, wanted=None, out: Optional[bytearray] = None) -> Lin
     return _line_read(result, line)
 
 
+def read_blotted(word, map, out: Optional[bytearray] = None) -> LineRead:
+    """A line with blots, the characters that the scanner could not see: the map, 63 bytes, has 1 for a blot and 0 for none. With f blots it is the line that
+    differs from the 63 characters in e of them outside the blots, 2e + f at most 11; there is never a second one. What stands at a blot, a character too, has
+    no say in which line that is; the distance and the changed addresses count it as any other. With no blot it is read_line with radius 5.
+
+    >>> line = encode_line(bytes(50), 65)
+    >>> word, map = bytearray(line), bytearray(63)
+    >>> for a in range(20, 29):
+    ...     word[a], map[a] = 63, 1
+    >>> word[62] ^= 1
+    >>> read = read_blotted(word, map)
+    >>> read.line == line
+    True
+    >>> read.number, read.distance, read.first, read.last
+    (65, 10, 20, 62)
+    """
+    map = _bytes(map)
+    result, line = _call(_library.film_read_blotted, word, map, len(map), room=63, out=out)
+    return _line_read(result, line)
+
+
 def read_spool(lines, radius, out: Optional[bytearray] = None) -> "list[LineRead | Refused]":
     """Up to PLACES lines of 63 characters, one after the other, read in one call with one radius and no wanted numbers: a list of what read_line gives for
     each. In place of a line that it refuses stands the Refused that it raises; this stops no other line, and leaves its own 63 bytes of an output that is
@@ -269,7 +291,7 @@ def read_spool(lines, radius, out: Optional[bytearray] = None) -> "list[LineRead
     ...     else:
     ...         print(f"line {i}: number {read.number}")
     line 0: number 65
-    line 1: refused (6): no line within the radius; for ring reading, an empty list
+    line 1: refused (6): no line within the radius; for ring reading, an empty list; with blots, no such line
     line 2: number 67
     """
     lines = _bytes(lines)

@@ -1,4 +1,4 @@
-"""Tests of film.py: what each function gives, every refusal by its number, and outputs that stay as they were."""
+"""Tests of film.py, but for blots: what each function gives, every refusal by its number, and outputs that stay as they were."""
 
 import doctest
 import itertools
@@ -294,7 +294,7 @@ class Tests(unittest.TestCase):
     def test_unknown_refusal(self):
         for number in range(1, 256):
             self.assertEqual(film.Refused(number).number, number)
-        self.assertEqual(str(film.Refused(6)), "refused (6): no line within the radius; for ring reading, an empty list")
+        self.assertEqual(str(film.Refused(6)), "refused (6): no line within the radius; for ring reading, an empty list; with blots, no such line")
         self.assertEqual(str(film.Refused(255)), "refused (255): a reason that this binding does not know")
 
     def test_version(self):

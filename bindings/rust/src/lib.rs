@@ -1,4 +1,4 @@
-//! The proved film reader: lines, spools of lines, rings, text for a panel and parity blocks, and the field and the register below them.
+//! The proved film reader: lines, with blots too, spools of lines, rings, text for a panel and parity blocks, and the field and the register below them.
 //!
 //! Every function takes whatever slices and numbers it is handed. It answers what it found, or the [`Refusal`] that says by number why not;
 //! then the output is as it was. A character is a byte from 0 to 63, and a line is 63 of them.
@@ -28,7 +28,7 @@ pub use spool::{read_spool, SpoolRead, PLACES, SPOOL};
 
 /// The version that this crate was made for: a million times the major number, a thousand times the minor, and the patch. It is the crate's own;
 /// tools/tables writes it from version.txt.
-pub const VERSION: u32 = 4002000;
+pub const VERSION: u32 = 4003000;
 
 /// The version of the library that is linked, written as [`VERSION`] is.
 pub fn version() -> u32 {
@@ -86,6 +86,30 @@ pub fn read_line(word: &[u8], radius: u8, wanted: Option<u16>, out: &mut [u8]) -
         Some(number) => library::read_line_wanted(word, radius, number, out),
     };
     line_read(r)
+}
+
+/// Reads a line with blots, the characters that the scanner could not see: `map`, 63 bytes, has 1 for a blot and 0 for none. With f blots, `out`, 63 bytes,
+/// gets the line that differs from the word in e characters outside them, 2e + f at most 11; there is never a second one. What stands at a blot, a
+/// character too, has no say in which line that is; the distance and the changed addresses count it as any other. With no blot it is [`read_line`] with
+/// radius 5.
+///
+/// ```
+/// let mut line = [0; 63];
+/// film::encode_line(&[7; 50], 65, &mut line)?;
+/// let (mut word, mut map) = (line, [0; 63]);
+/// for a in 20..29 {
+///     word[a] = 0;
+///     map[a] = 1;
+/// }
+/// word[62] ^= 1;
+/// let mut out = [0; 63];
+/// let read = film::read_blotted(&word, &map, &mut out)?;
+/// assert_eq!((read.number, read.distance, read.first, read.last), (65, 10, 20, 62));
+/// assert_eq!(out, line);
+/// # Ok::<(), film::Refusal>(())
+/// ```
+pub fn read_blotted(word: &[u8], map: &[u8], out: &mut [u8]) -> Result<LineRead, Refusal> {
+    line_read(library::read_blotted(word, map, out))
 }
 
 /// The line that was read, or the refusal.

@@ -6,9 +6,9 @@ use core::fmt;
 #[derive(Clone, Copy, Debug, PartialEq, Eq, Hash)]
 #[non_exhaustive]
 pub enum Refusal {
-    /// A line or ring is not 63 long, a text is not 50 long, or a spool's length is no multiple of 63 or is over 16,065.
+    /// A line, ring or map of blots is not 63 long, a text is not 50 long, or a spool's length is no multiple of 63 or is over 16,065.
     InputLength,
-    /// A character (a register's too) or field operand is over 63, or a data row over 127.
+    /// A character (a register's too) or field operand is over 63, a data row over 127, or a byte of a map over 1.
     ValueOver,
     /// Radius over 5.
     RadiusOver,
@@ -16,7 +16,7 @@ pub enum Refusal {
     NumberOver,
     /// Output length differs from the one stated, or is under 294 for panel text.
     OutputLength,
-    /// No line within the radius; for ring reading, an empty list.
+    /// No line within the radius; for ring reading, an empty list; with blots, no such line.
     NoLine,
     /// The line found has another number than the wanted one.
     OtherNumber,
@@ -95,12 +95,12 @@ impl Refusal {
 impl fmt::Display for Refusal {
     fn fmt(&self, f: &mut fmt::Formatter<'_>) -> fmt::Result {
         let why = match self {
-            Refusal::InputLength => "a line or ring is not 63 long, a text is not 50 long, or a spool's length is no multiple of 63 or is over 16,065",
-            Refusal::ValueOver => "a character (a register's too) or field operand is over 63, or a data row over 127",
+            Refusal::InputLength => "a line, ring or map of blots is not 63 long, a text is not 50 long, or a spool's length is no multiple of 63 or is over 16,065",
+            Refusal::ValueOver => "a character (a register's too) or field operand is over 63, a data row over 127, or a byte of a map over 1",
             Refusal::RadiusOver => "radius over 5",
             Refusal::NumberOver => "number over 4095",
             Refusal::OutputLength => "output length differs from the one stated, or is under 294 for panel text",
-            Refusal::NoLine => "no line within the radius; for ring reading, an empty list",
+            Refusal::NoLine => "no line within the radius; for ring reading, an empty list; with blots, no such line",
             Refusal::OtherNumber => "the line found has another number than the wanted one",
             Refusal::RowCount => "block rows outside 2..64, or data rows outside 1..63",
             Refusal::NoBlock => "no proper block within one bit",

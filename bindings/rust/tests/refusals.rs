@@ -1,4 +1,4 @@
-//! Tests of the crate: what each function gives, every refusal by its number, and outputs that stay as they were.
+//! Tests of the crate, but for spools and blots: what each function gives, every refusal by its number, and outputs that stay as they were.
 
 use film::{Refusal, Register};
 
@@ -330,7 +330,7 @@ fn numbers_of_refusals() {
     }
     assert_eq!((Refusal::InputLength.number(), Refusal::NoLine.number(), Refusal::QuotientByZero.number()), (1, 6, 13));
     assert_eq!((Refusal::Template.number(), Refusal::UnknownKind.number()), (14, 15));
-    assert_eq!(Refusal::NoLine.to_string(), "refused (6): no line within the radius; for ring reading, an empty list");
+    assert_eq!(Refusal::NoLine.to_string(), "refused (6): no line within the radius; for ring reading, an empty list; with blots, no such line");
 }
 
 /// Every answer is told, also one that this crate does not know.

@@ -30,7 +30,7 @@ use spool::PLACES;
 use spool::SpoolAnswer;
 
 // The library's version: a million times the major number, a thousand times the minor, and the patch. tools/tables writes it from version.txt.
-const VERSION: u32 = 4002000;
+const VERSION: u32 = 4003000;
 
 // The version of the library that is linked.
 #[no_mangle]

@@ -4,9 +4,9 @@ use Rattle.refusal.specs.declared.Refusal.{Refusal}
 use Rattle.refusal.specs.declared.Refusal.the-variants.{InputLength, ValueOver, RadiusOver, NumberOver, OutputLength, NoLine, OtherNumber, RowCount, NoBlock, ManyStarts, RegisterFull, RegisterShort, QuotientByZero, Template, UnknownKind}
 
 abbrev pub numberOf : Refusal → ℕ
--- a line or ring is not 63 long, a text is not 50 long, or a spool's length is no multiple of 63 or is over 16,065
+-- a line, ring or map of blots is not 63 long, a text is not 50 long, or a spool's length is no multiple of 63 or is over 16,065
 numberOf InputLength = 1
--- a character (a register's too) or field operand is over 63, or a data row over 127
+-- a character (a register's too) or field operand is over 63, a data row over 127, or a byte of a map over 1
 numberOf ValueOver = 2
 -- radius over 5
 numberOf RadiusOver = 3
@@ -14,7 +14,7 @@ numberOf RadiusOver = 3
 numberOf NumberOver = 4
 -- output length differs from the one stated, or is under 294 for panel text
 numberOf OutputLength = 5
--- no line within the radius; for ring reading, an empty list
+-- no line within the radius; for ring reading, an empty list; with blots, no such line
 numberOf NoLine = 6
 -- the line found has another number than the wanted one
 numberOf OtherNumber = 7

@@ -29,10 +29,18 @@ static void ours_encode_by_character(const uint8_t *input, uint8_t radius, reply
     r->answer = checked.answer, r->distance = 0, r->number = 0, r->length = 63;
 }
 
-static void ours_read(const uint8_t *input, uint8_t radius, reply *r) {
-    film_line line = film_read_line(input, 63, radius, r->out, 63);
+static void ours_line(film_line line, reply *r) {
     r->answer = line.answer, r->distance = line.distance, r->number = line.number, r->length = line.answer == 0 ? 63 : 0;
     r->first = line.first, r->last = line.last;
+}
+
+static void ours_read(const uint8_t *input, uint8_t radius, reply *r) {
+    ours_line(film_read_line(input, 63, radius, r->out, 63), r);
+}
+
+static void ours_blotted(const uint8_t *input, uint8_t radius, reply *r) {
+    (void)radius;
+    ours_line(film_read_blotted(input, 63, input + 63, 63, r->out, 63), r);
 }
 
 static void ours_better(const uint8_t *input, uint8_t radius, reply *r) {
@@ -93,7 +101,7 @@ enum { LINES = 128, RINGS = 4, SPOOLS = 8, OURS = 0, FEC = 1, SECOND = 2, PEERS 
 
 static const char *const peer_names[PEERS] = {"film", "libfec", "second"};
 
-typedef enum { ENCODE, READ, SCANS, RING, NOISE, BLOCK, FIELD, PANEL, PANEL_RING, SPOOL } kind;
+typedef enum { ENCODE, READ, SCANS, RING, NOISE, BLOCK, FIELD, PANEL, PANEL_RING, SPOOL, BLOTS, CLEAN_BLOTS } kind;
 
 /* Lines with one error in a spool of the mix. Table 1 of source document 001 has 849,085 single errors in 108,366,272 lines: 1.998 in 255. More errors than
  * one have 9,116 of its lines, 0.021 in 255 and 0.17 in the row's eight spools: nearest to that is none. */
@@ -102,7 +110,7 @@ enum { MIXED = 2 };
 typedef struct {
     const char *name;
     kind of;
-    int wrong;
+    int wrong, blots;
     uint8_t radius;
     call *calls[PEERS];
     uint8_t (*words)[63];
@@ -110,29 +118,34 @@ typedef struct {
 } row;
 
 static row rows[] = {
-    {"encode", ENCODE, 0, 0, {ours_encode, fec_encode, second_encode}, NULL, {0}},
-    {"encode_by_character", ENCODE, 0, 0, {ours_encode_by_character, fec_encode, second_encode}, NULL, {0}},
-    {"read_0", READ, 0, 5, {ours_read, fec_read, second_read}, NULL, {0}},
-    {"read_1", READ, 1, 5, {ours_read, fec_read, second_read}, NULL, {0}},
-    {"read_2", READ, 2, 5, {ours_read, fec_read, second_read}, NULL, {0}},
-    {"read_3", READ, 3, 5, {ours_read, fec_read, second_read}, NULL, {0}},
-    {"read_4", READ, 4, 5, {ours_read, fec_read, second_read}, NULL, {0}},
-    {"read_5", READ, 5, 5, {ours_read, fec_read, second_read}, NULL, {0}},
-    {"read_6_refused", READ, 6, 5, {ours_read, fec_read, second_read}, NULL, {0}},
-    {"list_clean_radius_5", RING, 0, 5, {ours_list, fec_list, second_list}, NULL, {0}},
-    {"list_2_errors_radius_5", RING, 2, 5, {ours_list, fec_list, second_list}, NULL, {0}},
-    {"list_noise_radius_5", NOISE, 0, 5, {ours_list, fec_list, second_list}, NULL, {0}},
-    {"list_clean_radius_1", RING, 0, 1, {ours_list, fec_list, second_list}, NULL, {0}},
-    {"list_2_errors_radius_1", RING, 2, 1, {ours_list, fec_list, second_list}, NULL, {0}},
-    {"list_noise_radius_1", NOISE, 0, 1, {ours_list, fec_list, second_list}, NULL, {0}},
-    {"block_9_rows", BLOCK, 0, 0, {ours_block, plain_block, second_block}, NULL, {0}},
-    {"products_62", FIELD, 0, 0, {ours_products, plain_products, second_products}, NULL, {0}},
-    {"quotients_62", FIELD, 0, 0, {ours_quotients, plain_quotients, second_quotients}, NULL, {0}},
-    {"better_scan", SCANS, 1, 5, {ours_better, fec_better, second_better}, NULL, {0}},
-    {"panel_text", PANEL, 0, 0, {ours_panel_text, plain_panel_text, second_panel_text}, NULL, {0}},
-    {"panel_ring", PANEL_RING, 1, 1, {ours_panel_ring, fec_panel_ring, second_panel_ring}, NULL, {0}},
-    {"spool_clean", SPOOL, 0, 5, {ours_spool, fec_spool, second_spool}, NULL, {0}},
-    {"spool_mix", SPOOL, MIXED, 5, {ours_spool, fec_spool, second_spool}, NULL, {0}},
+    {"encode", ENCODE, 0, 0, 0, {ours_encode, fec_encode, second_encode}, NULL, {0}},
+    {"encode_by_character", ENCODE, 0, 0, 0, {ours_encode_by_character, fec_encode, second_encode}, NULL, {0}},
+    {"read_0", READ, 0, 0, 5, {ours_read, fec_read, second_read}, NULL, {0}},
+    {"read_1", READ, 1, 0, 5, {ours_read, fec_read, second_read}, NULL, {0}},
+    {"read_2", READ, 2, 0, 5, {ours_read, fec_read, second_read}, NULL, {0}},
+    {"read_3", READ, 3, 0, 5, {ours_read, fec_read, second_read}, NULL, {0}},
+    {"read_4", READ, 4, 0, 5, {ours_read, fec_read, second_read}, NULL, {0}},
+    {"read_5", READ, 5, 0, 5, {ours_read, fec_read, second_read}, NULL, {0}},
+    {"read_6_refused", READ, 6, 0, 5, {ours_read, fec_read, second_read}, NULL, {0}},
+    {"list_clean_radius_5", RING, 0, 0, 5, {ours_list, fec_list, second_list}, NULL, {0}},
+    {"list_2_errors_radius_5", RING, 2, 0, 5, {ours_list, fec_list, second_list}, NULL, {0}},
+    {"list_noise_radius_5", NOISE, 0, 0, 5, {ours_list, fec_list, second_list}, NULL, {0}},
+    {"list_clean_radius_1", RING, 0, 0, 1, {ours_list, fec_list, second_list}, NULL, {0}},
+    {"list_2_errors_radius_1", RING, 2, 0, 1, {ours_list, fec_list, second_list}, NULL, {0}},
+    {"list_noise_radius_1", NOISE, 0, 0, 1, {ours_list, fec_list, second_list}, NULL, {0}},
+    {"block_9_rows", BLOCK, 0, 0, 0, {ours_block, plain_block, second_block}, NULL, {0}},
+    {"products_62", FIELD, 0, 0, 0, {ours_products, plain_products, second_products}, NULL, {0}},
+    {"quotients_62", FIELD, 0, 0, 0, {ours_quotients, plain_quotients, second_quotients}, NULL, {0}},
+    {"better_scan", SCANS, 1, 0, 5, {ours_better, fec_better, second_better}, NULL, {0}},
+    {"panel_text", PANEL, 0, 0, 0, {ours_panel_text, plain_panel_text, second_panel_text}, NULL, {0}},
+    {"panel_ring", PANEL_RING, 1, 0, 1, {ours_panel_ring, fec_panel_ring, second_panel_ring}, NULL, {0}},
+    {"spool_clean", SPOOL, 0, 0, 5, {ours_spool, fec_spool, second_spool}, NULL, {0}},
+    {"spool_mix", SPOOL, MIXED, 0, 5, {ours_spool, fec_spool, second_spool}, NULL, {0}},
+    {"blots_0", BLOTS, 5, 0, 0, {ours_blotted, fec_blotted, second_blotted}, NULL, {0}},
+    {"blots_4", BLOTS, 3, 4, 0, {ours_blotted, fec_blotted, second_blotted}, NULL, {0}},
+    {"blots_8", BLOTS, 1, 8, 0, {ours_blotted, fec_blotted, second_blotted}, NULL, {0}},
+    {"blots_11", BLOTS, 0, 11, 0, {ours_blotted, fec_blotted, second_blotted}, NULL, {0}},
+    {"blots_clean", CLEAN_BLOTS, 0, 4, 0, {ours_blotted, fec_blotted, second_blotted}, NULL, {0}},
 };
 
 enum { ROWS = sizeof rows / sizeof rows[0] };
@@ -153,9 +166,8 @@ static void characters(uint8_t *word) {
         word[a] = (uint8_t)below(64);
 }
 
-/* Changes so many characters, each at an address of its own. */
-static void damage(uint8_t *word, int wrong) {
-    int changed[63] = {0};
+/* Changes so many characters, each at an address of its own, where there is no 1 in `changed`, and puts a 1 there. */
+static void change(uint8_t *word, int wrong, uint8_t *changed) {
     while (wrong > 0) {
         uint64_t a = below(63);
         if (!changed[a]) {
@@ -164,6 +176,11 @@ static void damage(uint8_t *word, int wrong) {
             wrong--;
         }
     }
+}
+
+static void damage(uint8_t *word, int wrong) {
+    uint8_t changed[63] = {0};
+    change(word, wrong, changed);
 }
 
 static void make_word(const row *w, uint8_t *word) {
@@ -232,11 +249,23 @@ static void make_word(const row *w, uint8_t *word) {
         }
         return;
     }
+    case BLOTS:
+    case CLEAN_BLOTS: { /* so many characters are wrong outside the blots; at the blots all are, or none in a clean word, of which a copy is changed */
+        uint8_t *map = word + 63, changed[63];
+        fec_encode(word, 0, &r);
+        memcpy(word, r.out, 63);
+        change(w->of == BLOTS ? word : r.out, w->blots, map);
+        memcpy(changed, map, 63);
+        change(word, w->wrong, changed);
+        return;
+    }
     }
 }
 
-/* Two scans are two words, one after the other, and a spool is 255. */
-static int stride(const row *w) { return w->of == SCANS ? 2 : w->of == SPOOL ? FILM_PLACES : 1; }
+/* Two scans are two words, one after the other, a word with blots has its map after it, and a spool is 255 words. */
+static int stride(const row *w) {
+    return w->of == SCANS || w->of == BLOTS || w->of == CLEAN_BLOTS ? 2 : w->of == SPOOL ? FILM_PLACES : 1;
+}
 
 static int words_of(const row *w) {
     return w->of == RING || w->of == NOISE || w->of == PANEL_RING ? RINGS : w->of == SPOOL ? SPOOLS : LINES / stride(w);

@@ -22,13 +22,15 @@ typedef struct reply {
 
 /* Encoding takes 52 characters, the last two of them the number, and panel text takes 50; the others take the 63 characters or 9 rows, and a radius. Of two
  * scans, 126 characters, the number is 1 or 2, the scan that is kept. Products are those of each character and the one after it, 62 of them; quotients
- * likewise, 0 for one that is refused, and the distance is how many are. A spool is 255 lines, one after the other. */
+ * likewise, 0 for one that is refused, and the distance is how many are. A spool is 255 lines, one after the other. A word with blots has its map after it,
+ * 63 bytes, and no radius. */
 typedef void call(const uint8_t *input, uint8_t radius, reply *r);
 
 /* libfec, or plain C; they have to be prepared once, which gives 0 where libfec cannot be. */
 int prepare_peers(void);
-call fec_encode, fec_read, fec_better, fec_list, fec_panel_ring, fec_spool, plain_block, plain_products, plain_quotients, plain_panel_text;
+call fec_encode, fec_read, fec_blotted, fec_better, fec_list, fec_panel_ring, fec_spool, plain_block, plain_products, plain_quotients, plain_panel_text;
 
-call second_encode, second_read, second_better, second_list, second_block, second_products, second_quotients, second_panel_text, second_panel_ring, second_spool;
+call second_encode, second_read, second_blotted, second_better, second_list, second_block, second_products, second_quotients, second_panel_text,
+    second_panel_ring, second_spool;
 
 #endif

@@ -1,7 +1,7 @@
 /* The peers in C: libfec behind a small adapter, and plain C for what libfec has nothing of.
  *
- * libfec knows neither marks nor numbers nor rings: the adapter takes the marks off and puts them on again, and turns a ring 126 times. Unlike
- * the library neither it nor the plain C tests lengths or characters. */
+ * libfec knows neither marks nor numbers nor rings nor maps: the adapter takes the marks off and puts them on again, turns a ring 126 times, and lists
+ * the blots of a map. Unlike the library neither it nor the plain C tests lengths or characters. */
 #include "bench.h"
 #include <fec.h>
 #include <string.h>
@@ -26,10 +26,10 @@ void fec_encode(const uint8_t *input, uint8_t radius, reply *r) {
     r->answer = 0, r->distance = 0, r->number = 0, r->length = 63;
 }
 
-/* The number of characters that were mended, or -1, and their addresses where there is room for them. */
-static int fec_mend(uint8_t *word, int *addresses) {
+/* The number of characters that were mended, or -1, and their addresses where there is room for them: there the first so many are those of blots. */
+static int fec_mend(uint8_t *word, int *addresses, int blots) {
     marks(word);
-    int mended = decode_rs_char(fec, word, addresses, 0);
+    int mended = decode_rs_char(fec, word, addresses, blots);
     marks(word);
     return mended;
 }
@@ -37,7 +37,7 @@ static int fec_mend(uint8_t *word, int *addresses) {
 void fec_read(const uint8_t *input, uint8_t radius, reply *r) {
     int addresses[11];
     memcpy(r->out, input, 63);
-    int mended = fec_mend(r->out, addresses);
+    int mended = fec_mend(r->out, addresses, 0);
     if (mended < 0 || mended > radius) {
         r->answer = FILM_NO_LINE, r->distance = 0, r->number = 0, r->length = 0, r->first = 0, r->last = 0;
         return;
@@ -51,11 +51,46 @@ void fec_read(const uint8_t *input, uint8_t radius, reply *r) {
     r->first = (uint8_t)first, r->last = (uint8_t)last;
 }
 
+/* The addresses of the blots in a map, and how many they are; one too many where there are more than fit. */
+static int blots_of(const uint8_t *map, int *addresses) {
+    int blots = 0;
+    for (int a = 0; a < 63; a++)
+        if (map[a] == 1) {
+            if (blots == FILM_CHECKS)
+                return blots + 1;
+            addresses[blots++] = a;
+        }
+    return blots;
+}
+
+/* libfec may count a blot as mended whose character was right, and may find a line that is wrong at too many addresses outside the blots. */
+void fec_blotted(const uint8_t *input, uint8_t radius, reply *r) {
+    (void)radius;
+    const uint8_t *map = input + 63;
+    int addresses[FILM_CHECKS], blots = blots_of(map, addresses);
+    memcpy(r->out, input, 63);
+    int mended = blots > FILM_CHECKS ? -1 : fec_mend(r->out, addresses, blots);
+    int first = FILM_NOWHERE, last = 0, changed = 0, outside = 0;
+    for (int i = 0; i < mended; i++) {
+        int a = addresses[i], differs = r->out[a] != input[a];
+        first = differs && a < first ? a : first;
+        last = differs && a > last ? a : last;
+        changed += differs;
+        outside += differs && map[a] == 0;
+    }
+    if (mended < 0 || 2 * outside + blots > FILM_CHECKS) {
+        r->answer = FILM_NO_LINE, r->distance = 0, r->number = 0, r->length = 0, r->first = 0, r->last = 0;
+        return;
+    }
+    r->answer = 0, r->distance = (uint8_t)changed, r->number = (uint16_t)(r->out[50] * 64 + r->out[51]), r->length = 63;
+    r->first = (uint8_t)first, r->last = (uint8_t)(changed == 0 ? FILM_NOWHERE : last);
+}
+
 /* Both scans are mended, and the nearer is kept. */
 void fec_better(const uint8_t *input, uint8_t radius, reply *r) {
     uint8_t words[126];
     memcpy(words, input, 126);
-    int first = fec_mend(words, NULL), second = fec_mend(words + 63, NULL);
+    int first = fec_mend(words, NULL, 0), second = fec_mend(words + 63, NULL, 0);
     int is_first = first >= 0 && first <= radius, is_second = second >= 0 && second <= radius;
     r->number = is_second && (!is_first || second < first) ? 2 : is_first ? 1 : 0;
     r->answer = r->number == 0 ? FILM_NO_LINE : FILM_DONE, r->distance = 0, r->length = 0;
@@ -68,7 +103,7 @@ void fec_list(const uint8_t *input, uint8_t radius, reply *r) {
         ring[i] = input[i % 63], back[i] = input[(125 - i) % 63];
     for (int k = 0; k < 126; k++) {
         memcpy(word, k < 63 ? ring + k : back + (62 - (k - 63)), 63);
-        int mended = fec_mend(word, NULL);
+        int mended = fec_mend(word, NULL, 0);
         if (mended >= 0 && mended <= radius)
             r->out[r->length++] = (uint8_t)k;
     }

@@ -4,12 +4,16 @@
 
 #[path = "../second/block.rs"]
 mod block;
+#[path = "../second/blots.rs"]
+mod blots;
 #[path = "../second/code.rs"]
 mod code;
 #[path = "../second/encoder.rs"]
 mod encoder;
 #[path = "../second/field.rs"]
 mod field;
+#[path = "../second/interpolation.rs"]
+mod interpolation;
 #[path = "../second/line.rs"]
 mod line;
 #[path = "../second/panel.rs"]
@@ -58,6 +62,11 @@ impl Reply {
             self.out[..out.len()].copy_from_slice(out);
         }
     }
+
+    fn set_line(&mut self, (numbers, out): line::Answer) {
+        self.set(numbers[0] as u8, numbers[2], numbers[1] as u16, &out);
+        (self.first, self.last) = (numbers[3] as u8, numbers[4] as u8);
+    }
 }
 
 /// The tables that the second program makes once.
@@ -73,9 +82,12 @@ pub unsafe extern "C" fn second_encode(input: *const u8, _: u8, r: &mut Reply) {
 
 #[no_mangle]
 pub unsafe extern "C" fn second_read(input: *const u8, radius: u8, r: &mut Reply) {
-    let (numbers, out) = line::read(code(), from_raw_parts(input, 63), radius, None, 63);
-    r.set(numbers[0] as u8, numbers[2], numbers[1] as u16, &out);
-    (r.first, r.last) = (numbers[3] as u8, numbers[4] as u8);
+    r.set_line(line::read(code(), from_raw_parts(input, 63), radius, None, 63));
+}
+
+#[no_mangle]
+pub unsafe extern "C" fn second_blotted(input: *const u8, _: u8, r: &mut Reply) {
+    r.set_line(blots::read(code(), from_raw_parts(input, 63), from_raw_parts(input.add(63), 63), 63));
 }
 
 #[no_mangle]

@@ -99,6 +99,7 @@ pub fn map_of(blots: &[usize]) -> Vec<u8> {
     (0..63).map(|a| blots.contains(&a) as u8).collect()
 }
 
+/// Values that are not 0 at these addresses.
 fn with_values(random: &mut Random, addresses: &[usize]) -> Vec<(usize, u8)> {
     addresses.iter().map(|&a| (a, 1 + random.below(63) as u8)).collect()
 }
@@ -125,9 +126,9 @@ pub fn counts() -> impl Iterator<Item = (usize, usize)> {
     (0..=MOST + 2).flat_map(|blots| (0..=(MOST + 2 - blots) / 2).map(move |wrong| (blots, wrong)))
 }
 
-/// A word whose sums have the place of an address for a root twice, a blot's or that of a wrong character, and those of the blots and of the wrong characters
-/// once: the sums of the errors, and of each second one the term of that place. Where the roots outside the blots, that of the blot too, are few enough
-/// no line is.
+/// A word whose locator has a root twice: to every second sum of errors at the blots and of wrong characters elsewhere a term of one of these places is added.
+/// With the blots' own roots taken out, the place of a blot is a root once, where no wrong character is looked for, or that of a wrong character twice.
+/// Where the roots that are left are few enough no other locator has these sums, and there is no line.
 pub fn with_root_twice(code: &Code, random: &mut Random, blots: &[usize], wrong: &[usize], twice: usize) -> Blotted {
     let errors = with_values(random, &[blots, wrong].concat());
     let (sums, terms) = (code.error_sums(&errors), code.error_sums(&[(twice, 1 + random.below(63) as u8)]));

@@ -1,6 +1,6 @@
-//! The parts of the comparison that read words with blots: every count of blots and of wrong characters, maps of any kind, and each refusal before the next.
+//! The parts of the comparison that read words with blots: every count of blots and of wrong characters, scratches, any map, and each refusal before the next.
 
-use crate::blots::{self, counts, map_of, planted, with_root_twice, Blotted, MOST};
+use crate::blots::{self, counts, map_of, planted, planted_at, with_root_twice, Blotted, MOST};
 use crate::code::with_errors;
 use crate::interface::{film_read_blotted, film_read_line};
 use crate::lent::Lent;
@@ -19,7 +19,7 @@ fn address_of(lent: &mut Lent, length: usize) -> *mut u8 {
     if length == 0 { null_mut() } else { lent.pointer() }
 }
 
-/// Bytes cut to a length, or with zeros up to it.
+/// Bytes cut to a length, or with a zero after them.
 fn of_length(bytes: &[u8], length: usize) -> Vec<u8> {
     bytes.iter().copied().chain([0]).take(length).collect()
 }
@@ -59,7 +59,7 @@ impl Comparison {
         }
     }
 
-    /// Words that have a root twice, with so many blots: the first blot's place, and that of a wrong character; each with as many other wrong ones as fit.
+    /// Words that have a root twice, with so many blots: the first blot's place or that of a wrong character, with every count of wrong ones that fits.
     fn blots_twice(&mut self, count: usize) {
         for others in 0..=(MOST - count) / 2 {
             let addresses = random_addresses(&mut self.random, count + others);
@@ -68,6 +68,17 @@ impl Comparison {
                 let (word, map) = with_root_twice(&self.code, &mut self.random, blots, wrong, *twice);
                 self.read_blotted(&word, &map, 63);
             }
+        }
+    }
+
+    /// Scratches: every run of up to twelve blots, all of which hide a wrong character, and as many wrong ones elsewhere as fit.
+    fn scratches(&mut self) {
+        for (count, first) in (1..=MOST + 1).flat_map(|count| (0..=63 - count).map(move |first| (count, first))) {
+            let blots: Vec<usize> = (first..first + count).collect();
+            let seen = random_addresses(&mut self.random, 63).into_iter().filter(|a| !blots.contains(a));
+            let wrong: Vec<usize> = seen.take(MOST.saturating_sub(count) / 2).chain(blots.clone()).collect();
+            let (word, map) = planted_at(&self.code, &mut self.random, &blots, &wrong);
+            self.read_blotted(&word, &map, 63);
         }
     }
 
@@ -132,6 +143,7 @@ impl Comparison {
         for (blots, wrong) in counts().flat_map(|two| [two; TIMES]) {
             self.planted(blots, wrong);
         }
+        self.scratches();
         for count in 0..=63 {
             self.blots_anywhere(count);
         }

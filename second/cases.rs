@@ -5,6 +5,7 @@
 
 mod adding;
 mod block;
+mod blots;
 mod changes;
 mod encoder;
 mod even;
@@ -39,13 +40,14 @@ const BETTER_SCAN: Call = Call(13, "better_scan");
 const PANEL_TEXT: Call = Call(14, "panel_text");
 const PANEL_RING: Call = Call(15, "panel_ring");
 const READ_SPOOL: Call = Call(16, "read_spool");
+const READ_BLOTTED: Call = Call(17, "read_blotted");
 
 /// What is handed over: the head's fields, and the input.
 struct Case<'a> {
     call: Call,
     /// A radius, an operand or a character.
     small: u8,
-    /// The number of a line, a wanted one, a register's count, or the length of the first of two scans.
+    /// The number of a line, a wanted one, a register's count, or the length of the first of two scans or of a word before its map.
     number: u16,
     /// The length of the output that is lent.
     room: usize,
@@ -110,6 +112,7 @@ pub fn stored() -> (Vec<u8>, String) {
         scans::add_all,
         panel::add_all,
         spool::add_all,
+        blots::add_all,
     ];
     for add_all in sections {
         add_all(&mut cases);

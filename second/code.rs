@@ -62,17 +62,22 @@ impl Code {
         }
     }
 
-    fn product(&self, u: u8, v: u8) -> u8 {
+    pub fn product(&self, u: u8, v: u8) -> u8 {
         self.products[u as usize][v as usize]
     }
 
-    fn quotient(&self, u: u8, v: u8) -> u8 {
+    pub fn quotient(&self, u: u8, v: u8) -> u8 {
         assert_ne!(v, 0, "no quotient by 0 is ever needed");
         self.product(u, self.inverses[v as usize])
     }
 
+    /// The place of an address.
+    pub fn place(&self, address: usize) -> u8 {
+        self.places[address]
+    }
+
     /// The value of a polynomial, its constant coefficient first.
-    fn value(&self, polynomial: &[u8], x: u8) -> u8 {
+    pub fn value(&self, polynomial: &[u8], x: u8) -> u8 {
         polynomial.iter().rev().fold(0, |value, &c| self.product(value, x) ^ c)
     }
 
@@ -113,7 +118,7 @@ impl Code {
         with_errors(&word, &self.solved(&(52..63).collect::<Vec<usize>>(), lacking.try_into().unwrap()))
     }
 
-    fn is_line(&self, word: &[u8]) -> bool {
+    pub fn is_line(&self, word: &[u8]) -> bool {
         self.sums(word) == self.sums(&marks())
     }
 

@@ -3,14 +3,17 @@
 //!
 //! tools/compare-library builds and runs it: library ROUNDS [SEED]. Each output lies between two rows of bytes that must stay, and so does each
 //! input, which must stay too. All pairs of operands are tried, every length up to 300, a byte that is too high at every place, and the rows of the
-//! bench sheet; the rest is random, and the same in every run with that seed. second/library/ has the calls of registers, of spools and for a
-//! panel, and what the change requests speak of. At the end each call must have given each answer that it can give.
+//! bench sheet; the rest is random, and the same in every run with that seed. second/library/ has the calls of registers, of spools, with blots and for
+//! a panel, and what the change requests speak of. At the end each call must have given each answer that it can give.
 
 // Of the second program only what answers is called here; what writes the stored files is not.
 #![allow(dead_code)]
 
 mod adding;
 mod block;
+mod blots;
+#[path = "library/blots.rs"]
+mod blotted;
 mod code;
 mod encoder;
 mod even;
@@ -18,6 +21,7 @@ mod false_starts;
 mod field;
 mod finger;
 mod interface;
+mod interpolation;
 mod lent;
 mod line;
 mod panel;
@@ -50,8 +54,8 @@ use std::process::exit;
 /// The version that the library has to tell. tools/tables writes it from version.txt.
 const VERSION: u32 = 4003000;
 
-/// Each call, and every answer that it can give. A spool's line is one of a spool that is read alone, by film_read_line.
-const ANSWERS: [(&str, &[u8]); 17] = [
+/// Each call, and every answer that it can give. A spool's line and an unblotted one, a word with no blot, are read alone, by film_read_line.
+const ANSWERS: [(&str, &[u8]); 19] = [
     ("sum", &[0, VALUE_OVER]),
     ("product", &[0, VALUE_OVER]),
     ("quotient", &[0, VALUE_OVER, QUOTIENT_BY_ZERO]),
@@ -60,6 +64,8 @@ const ANSWERS: [(&str, &[u8]); 17] = [
     ("read_line_wanted", &[0, INPUT_LENGTH, VALUE_OVER, RADIUS_OVER, NUMBER_OVER, OUTPUT_LENGTH, NO_LINE, OTHER_NUMBER]),
     ("read_spool", &[0, INPUT_LENGTH, OUTPUT_LENGTH]),
     ("spool_line", &[0, VALUE_OVER, RADIUS_OVER, NO_LINE]),
+    ("read_blotted", &[0, INPUT_LENGTH, VALUE_OVER, OUTPUT_LENGTH, NO_LINE]),
+    ("unblotted_line", &[0, INPUT_LENGTH, VALUE_OVER, OUTPUT_LENGTH, NO_LINE]),
     ("better_scan", &[0, INPUT_LENGTH, VALUE_OVER, RADIUS_OVER, NO_LINE]),
     ("list_ring", &[0, INPUT_LENGTH, VALUE_OVER, RADIUS_OVER, OUTPUT_LENGTH]),
     ("read_ring", &[0, INPUT_LENGTH, VALUE_OVER, RADIUS_OVER, OUTPUT_LENGTH, NO_LINE, MANY_STARTS]),
@@ -360,6 +366,7 @@ fn main() {
     comparison.spool_lengths();
     comparison.spool_counts();
     comparison.refused_among_right();
+    comparison.blots();
     for i in 0..rounds {
         comparison.round(i % 8 == 0);
         if i % 8 == 0 {
@@ -371,6 +378,7 @@ fn main() {
             comparison.panel_texts();
             comparison.panel_rings();
             comparison.any_spool();
+            comparison.any_blots();
         }
         if i % 64 == 0 {
             comparison.by_the_character();

@@ -6,6 +6,7 @@
 
 mod adding;
 mod block;
+mod blots;
 mod cases;
 mod code;
 mod compare;
@@ -13,6 +14,7 @@ mod encoder;
 mod even;
 mod false_starts;
 mod field;
+mod interpolation;
 mod line;
 mod panel;
 mod random;

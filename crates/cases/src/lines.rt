@@ -1,4 +1,4 @@
-// The calls that read lines, one or a spool of them: what is told of a line is printed in one way.
+// The calls that read lines, one, one with blots or a spool of them: what is told of a line is printed in one way.
 ghost use Prim.Native.Nat.{_≤_};
 use super::print;
 use super::print_bytes;
@@ -21,6 +21,22 @@ pub fn read_line_wanted(word: &[u8], radius: u8, wanted: u16, output: &mut [u8])
     print(b"read_line_wanted");
     print_reading(given);
     print_bytes(output);
+}
+
+fn read_blotted(word: &[u8], map: &[u8], output: &mut [u8]) {
+    let given = film::film_read_blotted(word, map, output);
+    print(b"read_blotted");
+    print_reading(given);
+    print_bytes(output);
+}
+
+// The same of a word and its map that stand one after the other, the word of a length, or of all there is.
+pub fn read_with_map(both: &[u8], length: usize, output: &mut [u8]) {
+    if length <= both.len() {
+        read_blotted(&both[..length], &both[length..], output);
+    } else {
+        read_blotted(both, &both[..0], output);
+    }
 }
 
 pub fn read_spool(lines: &[u8], radius: u8, output: &mut [u8]) {

@@ -2,7 +2,7 @@
 //
 // Standard input is one case after another: a head of eight bytes, and then the input. The head is these bytes, a number's high byte first:
 // the call; a small number (a radius, a first operand or a character); a number of two bytes (of a line, wanted, a register's count, or the length of
-// the first of two scans);
+// the first of two scans or of a word before its map);
 // the length of the output that is lent, in two bytes; the length of the input, in two bytes. No case is too long: there is room for every
 // length that two bytes can say. The output is lent with LENT in every byte, so that it shows where it is left alone.
 //
@@ -12,6 +12,7 @@
 // Better scan: the input is the two scans, one after the other. The numbers are the answer and the scan, and the answer that comes with the part of the
 // input that is handed back; the bytes are that part's.
 // Read spool: the numbers are the answer, and those of each place, as reading its line gives them, up to the last that does not hold only zeros.
+// Read blotted: the input is the word and its map, one after the other.
 // Step and checks: the input is the eleven characters held (0 for each that is not there), and the number's low byte is the count.
 // Any other call: `passed over`.
 // The run ends where the input ends, also within a case, or after MOST_CASES.
@@ -59,6 +60,8 @@ const PANEL_TEXT: u8 = 14;
 const PANEL_RING: u8 = 15;
 
 const READ_SPOOL: u8 = 16;
+
+const READ_BLOTTED: u8 = 17;
 
 // The length of a head.
 const HEAD: usize = 8;
@@ -290,6 +293,7 @@ fn hand_over(call: u8, small: u8, number: u16, input: &[u8], output: &mut [u8]) 
         PANEL_TEXT => panel_text(input, output),
         PANEL_RING => panel_ring(input, small, output),
         READ_SPOOL => lines::read_spool(input, small, output),
+        READ_BLOTTED => lines::read_with_map(input, wide(number), output),
         _ => pass_over(),
     }
 }

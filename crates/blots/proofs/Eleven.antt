@@ -22,7 +22,7 @@ use Rattle.blots.specs.Promises.{seen}
 use Rattle.blots.specs.Inside.{FitsBlotted, placeOf, shareOf, valueOf, Cleared, Restored}
 use Rattle.blots.proofs.Seen.{weight-cleared, seen-shown, weight-seen-none}
 use Rattle.blots.proofs.Factors.{fits-restored}
-use Rattle.blots.proofs.Restoring.{RestoredTo, restored-none, restored-skip, restored-more, restored-all}
+use Rattle.blots.proofs.Restoring.{RestoredTo, restored-start, skipped, divided, restored-all}
 
 -- ---- the way back is always there
 
@@ -30,13 +30,12 @@ module _ (u : List ℕ) (blot first : ℕ) (word : Word u) (inside : blot < 63) 
   turn : (n : ℕ) → n < 63 → (w : List ℕ) (left : ℕ) → RestoredTo u blot first w left n → (v : List ℕ) × (rest : ℕ) × RestoredTo u blot first v rest (n + 1)
   turn n h w left t =
       let v : ℕ = product (getD w n 0) (inverse (sum (placeOf n) (placeOf blot))) in
-      ⊎-elim (λ (z : getD w n 0 ≡ 0). (w, left, restored-skip u blot first w left n t h w left z refl refl))
-      (λ (d : getD w n 0 ≡ 0 → ⊥).
-      (set w n v, bitXor left (shareOf v n), restored-more u blot first w left n t h inside word d v (shareOf v n) refl refl (set w n v) (bitXor left (shareOf v n)) refl refl))
+      ⊎-elim (λ (z : getD w n 0 ≡ 0). (w, left, skipped u blot first w left n t h z))
+      (λ (d : getD w n 0 ≡ 0 → ⊥). (set w n v, bitXor left (shareOf v n), divided u blot first w left n t h inside word d v (shareOf v n) refl refl))
       (same-or-not (getD w n 0) 0)
 
   turns : (n : ℕ) → n ≤ 63 → (w : List ℕ) × (left : ℕ) × RestoredTo u blot first w left n
-  turns zero h = (u, first, restored-none u blot first (word .long) nothing)
+  turns zero h = (u, first, restored-start u blot first (word .long) nothing)
   turns (suc n) h =
       let (w, left, t) = turns n (omega arith) in
       let (v, rest, s) = turn n (omega arith) w left t in

@@ -2,21 +2,23 @@
 use mathlib.Core.Path.{_≡_, refl, sym, ap, ap₂, _∙_, subst}
 use mathlib.Core.Bool.{Bool, true, false}
 use mathlib.Core.List.{List, []}
-use Prim.Native.Nat.{ℕ, zero, suc, min, _+_, _-_, _*_, _/_, _%_, _<_, _≤_}
+use Prim.Native.Nat.{ℕ, zero, suc, min, _+_, _-_, _*_, _/_, _%_, _^_, _<_, _≤_}
 use native.Mathlib.Nat.{le-trans}
 use native.Mathlib.Omega.{arith}
 use lib.ListN.{length, getD, set, length-set}
 use lib.Seq.{getD-set-same, getD-set-other}
+use lib.Bits.{bitOr}
 use borrow.Author.Count.{below-more}
 use Rattle.field.specs.Field.{sum}
 use Rattle.field.proofs.Laws
 use Rattle.polynomial.specs.Sums.{weight}
+use Rattle.polynomial.proofs.Vandermonde.{zeros-get}
 use Rattle.code.specs.Word.{Characters, powerSum, marks, added, Line, distance}
 use Rattle.code.specs.Inside.{PowerSums}
 use Rattle.code.proofs.Words.{length-added, characters-added, added-get, added-comm, added-twice}
 use Rattle.code.proofs.Sums.{powerSum-added}
 use Rattle.code.proofs.Lines.{line-long, line-characters, line-sums, sums-line}
-use Rattle.code.proofs.Distances.{distance-weight, weight-le}
+use Rattle.code.proofs.Distances.{distance-weight, weight-none}
 use Rattle.sums.specs.declared.Sums.{Sums}
 use Rattle.sums.specs.Held.{eleven}
 use Rattle.mender.specs.declared.Mended.{Mended}
@@ -25,10 +27,10 @@ use Rattle.mender.proofs.Finding.{true-false}
 use Rattle.line.specs.Inside.{ErrorSums}
 use Rattle.blots.specs.Promises.{seen, blots, outside, BlottedLine}
 use Rattle.blots.specs.declared.Errors.{Errors}
-use Rattle.blots.specs.Inside.{NoneBefore, FirstSet, FitsBlotted, Finds, FindsWithout, FindsNear, placeOf, Cleared, Restored}
+use Rattle.blots.specs.Inside.{NoneBefore, FirstSet, Holds, FitsBlotted, Finds, FindsWithout, FindsNear, placeOf, Cleared, Restored}
 use Rattle.blots.proofs.Seen.{seen-added, weight-cleared, one-fits-blotted}
 use Rattle.blots.proofs.Factors.{clearedOf, nothing-there, fits-cleared, fits-restored, fits-blank, blank-fits}
-use Rattle.blots.proofs.Restoring.{first-is}
+use Rattle.blots.proofs.Restoring.{first-is, holds-restored}
 
 -- ---- no blot is left
 
@@ -38,24 +40,37 @@ most c h = omega arith
 half : (c : ℕ) → min (c / 2) (c / 2) ≡ c / 2
 half c = omega arith
 
-pub without : (s : List ℕ) (c : ℕ) (m : Mended) → c ≤ 11 → Mends s c (c / 2) m → FindsWithout s c (record { found = m .found; word = m .word })
-without s c m h p =
-    let q : MendsTo s c (min (c / 2) (c / 2)) m = subst (λ (d : ℕ). MendsTo s d (min (c / 2) (d / 2)) m) (most c h) p in
-    let r : MendsTo s c (c / 2) m = subst (λ (e : ℕ). MendsTo s c e m) (half c) q in
-    record { fits = r .fits; none = r .none }
+-- what the mender finds, and a set of where it is
+module _ (s : List ℕ) (c : ℕ) (m : Mended) (small : c ≤ 11) (mends : Mends s c (c / 2) m) where
+  found-to : MendsTo s c (c / 2) m
+  found-to =
+      let q : MendsTo s c (min (c / 2) (c / 2)) m = subst (λ (d : ℕ). MendsTo s d (min (c / 2) (d / 2)) m) (most c small) mends in
+      subst (λ (e : ℕ). MendsTo s c e m) (half c) q
+
+  pub without-any : m .weight ≡ 0 → FindsWithout s c (record { found = m .found; word = m .word; set = 0 })
+  without-any z =
+      record {
+        fits = found-to .fits;
+        holds = λ q. record { clear = λ k h _. zeros-get (m .word) (weight-none (m .word) (sym (found-to .weighs q) ∙ z)) k };
+        none = found-to .none;
+      }
+
+  pub without-some : (set : ℕ) → Holds set (m .word) → FindsWithout s c (record { found = m .found; word = m .word; set = set })
+  without-some set h = record { fits = found-to .fits; holds = λ _. h; none = found-to .none }
 
 pub found-blank : (s m : List ℕ) (c blot : ℕ) (r : Errors) → length m ≡ 63 → FirstSet m blot → 63 ≤ blot → FindsWithout s c r → Finds s c m r
 found-blank s m c blot r long first past f =
     let blank : (k : ℕ) → k < 63 → getD m k 0 ≡ 0 = λ k h. first .before k (omega arith) in
     record {
       fits = λ q. fits-blank s m c long blank (r .word) (f .fits q);
+      holds = f .holds;
       none = λ q x g. f .none q x (blank-fits s m c long blank x g);
     }
 
 -- ---- a blot more
 
 not-found : {s m : List ℕ} {c : ℕ} {r : Errors} → r .found ≡ false → ((x : List ℕ) → FitsBlotted s c m x → ⊥) → Finds s c m r
-not-found z n = record { fits = λ q. absurd (true-false (sym q ∙ z)); none = λ _. n }
+not-found z n = record { fits = λ q. absurd (true-false (sym q ∙ z)); holds = λ q. absurd (true-false (sym q ∙ z)); none = λ _. n }
 
 module _ (m : List ℕ) (c blot : ℕ) (long : length m ≡ 63) (few : weight m ≤ c) (first : FirstSet m blot) (inside : blot < 63) where
   there : getD m blot 0 ≡ 0 → ⊥
@@ -114,9 +129,14 @@ module _ (m : List ℕ) (c blot : ℕ) (long : length m ≡ 63) (few : weight m 
           (one-fits-blotted t (c - 1) (set m blot 0) (r .word) (clearedOf (placeOf blot) x) (length-set m blot 0 ∙ long) (finds .fits q) (under x f))
           ∙ nothing-there (eleven h) t m (c - 1) blot inside (omega (arith, one-more)) there at-place x (down x f)))
 
-      pub found-restored : (x : List ℕ) → getD (r .word) blot 0 ≡ 0 → Restored (r .word) blot (h .first % 64) x → Finds (eleven h) c m (record { found = true; word = x })
-      found-restored x none back =
+      pub word-set : Holds (r .set) (r .word)
+      word-set = finds .holds q
+
+      pub found-restored : (x : List ℕ) (b : ℕ) → getD (r .word) blot 0 ≡ 0 → Restored (r .word) blot (h .first % 64) x → b ≡ 2 ^ blot
+          → Finds (eleven h) c m (record { found = true; word = x; set = bitOr (r .set) b })
+      found-restored x b none back eb =
           record {
+            holds = λ _. subst (λ (k : ℕ). Holds (bitOr (r .set) k) x) (sym eb) (holds-restored (r .word) blot (h .first % 64) x (r .set) inside (finds .holds q) back);
             fits = λ _.
                 subst (λ (n : ℕ). FitsBlotted (eleven h) n m x) one-more
                 (fits-restored (eleven h) t m (c - 1) blot inside (omega (arith, one-more)) there at-place (r .word) x (finds .fits q) none

@@ -3,17 +3,21 @@ use mathlib.Core.Path.{_≡_, refl, sym, ap, _∙_, subst}
 use mathlib.Core.Bool.{true, false}
 use mathlib.Core.Logic.{⊎-elim}
 use mathlib.Core.List.{List, [], _∷_}
-use Prim.Native.Nat.{ℕ, zero, suc, _+_, _-_, _<_, _≤_}
+use Prim.Native.Nat.{ℕ, zero, suc, _+_, _-_, _*_, _/_, _%_, _^_, _<_, _≤_}
+use native.Mathlib.Nat.{div-self, one-le-pow, one-mul}
 use native.Mathlib.Omega.{arith}
 use borrow.Author.Count.{below-none, below-more}
 use lib.ListN.{length, getD, drop, List·getD-eq-default}
 use lib.Seq.{drop-cons, drop-length}
+use lib.Bits.{bitOr}
+use lib.Pow.{shl-exact}
 use Rattle.numbers.proofs.Cases.{le-or-lt, same-or-not}
 use Rattle.refusal.specs.Promise.{Tells}
 use Rattle.refusal.proofs.Laws.{tells-yes, tells-no}
 use Rattle.polynomial.specs.Sums.{nonzero, weight}
 use Rattle.blots.specs.Promises.{Marked}
-use Rattle.blots.specs.Inside.{NoneBefore, FirstSet, LastSet}
+use Rattle.planes.proofs.Bits.{or-between}
+use Rattle.blots.specs.Inside.{NoneBefore, FirstSet, LastSet, Holds}
 
 -- ---- whether each byte of a map is 0 or 1
 
@@ -125,3 +129,43 @@ last-nowhere bs a h t =
 
 pub from-read : (bs : List ℕ) (a : ℕ) → length bs ≡ 63 → 0 < a → NoneFrom bs a → a - 1 < length bs
 from-read bs a l h t = let m = t .most in omega arith
+
+-- ---- a bit for each
+
+pub record HoldsTo (set : ℕ) (bs : List ℕ) (a : ℕ) : Type 0 where
+  pub most : a ≤ 63
+  pub clear : (k : ℕ) → k < a → set / 2 ^ k % 2 ≡ 0 → getD bs k 0 ≡ 0
+
+pub holds-none : (bs : List ℕ) → HoldsTo 0 bs 0
+holds-none bs = record { most = omega arith; clear = λ k h. absurd (omega arith) }
+
+-- a bit that is clear in both was clear
+pub set-more : (set a k : ℕ) → bitOr set (2 ^ a) / 2 ^ k % 2 ≡ 0 → set / 2 ^ k % 2 ≡ 0
+set-more set a k e = let b = or-between set (2 ^ a) k .left in omega arith
+
+-- and is not the one that was set
+pub set-here : (set a k : ℕ) → bitOr set (2 ^ a) / 2 ^ k % 2 ≡ 0 → k ≡ a → ⊥
+set-here set a k e q =
+    let b = or-between set (2 ^ a) k .right in
+    let o : 2 ^ a / 2 ^ k % 2 ≡ 1 = ap (λ (i : ℕ). 2 ^ a / 2 ^ i % 2) q ∙ ap (λ (n : ℕ). n % 2) (div-self {n = 2 ^ a} (one-le-pow a 2 (omega arith))) in
+    omega arith
+
+pub bit-is : (a : ℕ) → a < 63 → (1 * 2 ^ a) % 2 ^ 64 ≡ 2 ^ a
+bit-is a h = shl-exact {a = 1} 1 a 64 (omega arith) (omega arith) ∙ one-mul (2 ^ a)
+
+pub holds-more : (set : ℕ) (bs : List ℕ) (a b set′ : ℕ) → a < 63 → HoldsTo set bs a → b ≡ 2 ^ a → set′ ≡ bitOr set b → HoldsTo set′ bs (a + 1)
+holds-more set bs a b set′ h t eb e =
+    rw (e ∙ ap (bitOr set) eb) (record {
+      most = omega arith;
+      clear = λ k l z. ⊎-elim (λ (q : k ≡ a). absurd (set-here set a k z q)) (λ (d : k ≡ a → ⊥). t .clear k (omega arith) (set-more set a k z)) (same-or-not k a);
+    })
+
+pub holds-skip : (set : ℕ) (bs : List ℕ) (a set′ : ℕ) → a < 63 → HoldsTo set bs a → getD bs a 0 ≡ 0 → set′ ≡ set → HoldsTo set′ bs (a + 1)
+holds-skip set bs a set′ h t z e =
+    rw e (record {
+      most = omega arith;
+      clear = λ k l c. ⊎-elim (λ (q : k ≡ a). ap (λ (i : ℕ). getD bs i 0) q ∙ z) (λ (d : k ≡ a → ⊥). t .clear k (omega arith) c) (same-or-not k a);
+    })
+
+pub holds-all : (set : ℕ) (bs : List ℕ) (a : ℕ) → 63 ≤ a → HoldsTo set bs a → Holds set bs
+holds-all set bs a h t = record { clear = λ k l. t .clear k (omega arith) }

@@ -3,12 +3,13 @@ use mathlib.Core.Path.{_≡_, refl, sym, ap, ap₂, _∙_, subst}
 use mathlib.Core.Logic.{⊎-elim}
 use mathlib.Core.List.{List}
 use Prim.Native.Nat.{ℕ, zero, suc, _+_, _-_, _*_, _/_, _%_, _^_, _<_, _≤_}
-use native.Mathlib.Nat.{add-comm, mod-eq-of-lt}
+use native.Mathlib.Nat.{add-zero, mod-eq-of-lt}
 use native.Mathlib.Omega.{arith}
 use borrow.Author.Count.{below-more}
+use lib.ListN as ListN
 use lib.ListN.{length, getD, set, length-set}
 use lib.Seq.{getD-set-same, getD-set-other}
-use lib.Bits.{bitXor}
+use lib.Bits.{bitXor, bitOr}
 use Rattle.numbers.proofs.Cases.{le-or-lt, same-or-not, pos-of-not-zero}
 use Rattle.numbers.specs.Total.{total}
 use Rattle.numbers.proofs.Totals.{total-same, total-lt}
@@ -17,6 +18,7 @@ use Rattle.field.specs.Inside.{inverse}
 use Rattle.field.proofs.Laws
 use Rattle.lanes.specs.Lanes.{pack, lane}
 use Rattle.lanes.proofs.Laws.{lane-lt, lane-pack, lane-xor, lane-zero}
+use Rattle.places.specs.Logs.{LogOf}
 use Rattle.code.specs.Word.{powerSum}
 use Rattle.code.proofs.Words.{characters-below}
 use Rattle.code.proofs.Sums.{powerSum-set}
@@ -25,8 +27,10 @@ use Rattle.sums.specs.Held.{eleven}
 use Rattle.sums.proofs.Holding.{eleven-first, eleven-characters}
 use Rattle.mender.specs.Mender.{Word}
 use Rattle.mender.proofs.OneError.{after-first}
-use Rattle.blots.specs.Inside.{placeOf, shareOf, valueOf, Cleared, Restored}
+use Rattle.planes.specs.Roots.{FirstFrom}
+use Rattle.blots.specs.Inside.{Holds, placeOf, shareOf, valueOf, Cleared, Restored}
 use Rattle.blots.proofs.Factors.{place-lt, factor-pos, factor-lt}
+use Rattle.blots.proofs.Loops.{set-more, set-here}
 
 -- ---- a place, what a character has of S_-5, and the character that has so much
 
@@ -37,13 +41,25 @@ place-is a r h e = e ∙ ap (power α) (omega arith)
 low-63 : (n : ℕ) → n % 63 % 64 ≡ n % 63
 low-63 n = omega arith
 
-pub share-is : (v a x r : ℕ) → x ≡ power α (58 * (62 - a) % 63 % 64) → r ≡ product v x → r ≡ shareOf v a
-unfolding shareOf
-share-is v a x r ex er = er ∙ ap (product v) (ex ∙ ap (power α) (low-63 (58 * (62 - a))))
+pub power-none : (v l : ℕ) → v ≡ 0 → 0 ≡ product v (power α l)
+power-none v l z = sym (ap (λ (c : ℕ). product c (power α l)) z ∙ Laws.zero-product (power α l))
 
-pub value-is : (s a x r : ℕ) → x ≡ power α (5 * (62 - a) % 63 % 64) → r ≡ product s x → r ≡ valueOf s a
+pub log-fits : (v m l : ℕ) → LogOf v m → l < 63 → m + l < 256
+log-fits v m l g h = let b = g .below in omega arith
+
+pub power-some : (v l m r : ℕ) → v < 64 → (v ≡ 0 → ⊥) → LogOf v m → r ≡ power α ((m + l) % 63 % 64) → r ≡ product v (power α l)
+power-some v l m r h d g e =
+    let q : v % 64 ≡ v = mod-eq-of-lt h in
+    e ∙ ap (power α) (low-63 (m + l)) ∙ Laws.power-mod (m + l) ∙ Laws.power-add α m l
+    ∙ ap (λ (c : ℕ). product c (power α l)) (g .is (λ z. d (sym q ∙ z)) ∙ q)
+
+pub share-is : (v a r : ℕ) → r ≡ product v (power α (58 * (62 - a) % 63)) → r ≡ shareOf v a
+unfolding shareOf
+share-is v a r e = e
+
+pub value-is : (s a r : ℕ) → r ≡ product s (power α (5 * (62 - a) % 63)) → r ≡ valueOf s a
 unfolding valueOf
-value-is s a x r ex er = er ∙ ap (product s) (ex ∙ ap (power α) (low-63 (5 * (62 - a))))
+value-is s a r e = e
 
 -- the one undoes the other
 pub share-value : (s a : ℕ) → s < 64 → shareOf (valueOf s a) a ≡ s
@@ -80,9 +96,19 @@ first-is h = sym (eleven-first h 0 (omega arith) ∙ lane-zero (h .first))
 
 -- ---- a character divided
 
-pub divided-is : (v a b x y i r : ℕ) → x ≡ placeOf a → y ≡ placeOf b → i ≡ inverse (bitXor x y) → r ≡ product v i → r ≡ product v (inverse (sum (placeOf a) (placeOf b)))
+pub divided-is : (v a b x y i m r : ℕ) → v < 64 → (v ≡ 0 → ⊥) → x ≡ placeOf a → y ≡ placeOf b → i ≡ inverse (bitXor x y) → LogOf v m → r ≡ product i (power α m)
+    → r ≡ product v (inverse (sum (placeOf a) (placeOf b)))
 unfolding sum
-divided-is v a b x y i r ex ey ei er = er ∙ ap (product v) (ei ∙ ap₂ (λ (p q : ℕ). inverse (bitXor p q)) ex ey)
+divided-is v a b x y i m r h d ex ey ei g er =
+    let q : v % 64 ≡ v = mod-eq-of-lt h in
+    er ∙ ap₂ product (ei ∙ ap₂ (λ (p q : ℕ). inverse (bitXor p q)) ex ey) (g .is (λ z. d (sym q ∙ z)) ∙ q)
+    ∙ Laws.product-comm (inverse (bitXor (placeOf a) (placeOf b))) v
+
+pub inverse-fits : (x i : ℕ) → i ≡ inverse x → i < 64
+inverse-fits x i e = subst (λ (c : ℕ). c < 64) (sym e) (Laws.inverse-lt x)
+
+pub log-below : (v m : ℕ) → LogOf v m → m < 63
+log-below v m g = g .below
 
 pub divides : (a b x y : ℕ) → x ≡ placeOf a → y ≡ placeOf b → a < 63 → b < 63 → (a ≡ b → ⊥) → 0 < bitXor x y % 64
 unfolding sum
@@ -110,9 +136,9 @@ pub record RestoredTo (u : List ℕ) (blot first : ℕ) (w : List ℕ) (left a :
   pub blank : getD w blot 0 ≡ 0
   pub taken : left ≡ sum first (total a (λ k. shareOf (getD w k 0) k))
 
-pub restored-none : (u : List ℕ) (blot first : ℕ) → length u ≡ 63 → getD u blot 0 ≡ 0 → RestoredTo u blot first u first 0
+pub restored-start : (u : List ℕ) (blot first : ℕ) → length u ≡ 63 → getD u blot 0 ≡ 0 → RestoredTo u blot first u first 0
 unfolding total
-restored-none u blot first l z =
+restored-start u blot first l z =
     record {
       long = l;
       most = omega arith;
@@ -127,13 +153,16 @@ module _ (u : List ℕ) (blot first : ℕ) (w : List ℕ) (left a : ℕ) (t : Re
   pub restored-read : a < length w
   restored-read = omega (arith, t .long)
 
+  pub restored-small : Word u → getD w a 0 < 64
+  restored-small word = subst (λ (c : ℕ). c < 64) (sym (t .rest a (omega arith))) (word .characters a)
+
   pub not-blot : (getD w a 0 ≡ 0 → ⊥) → a ≡ blot → ⊥
   not-blot d e = d (ap (λ (k : ℕ). getD w k 0) e ∙ t .blank)
 
   one-more : a + 1 ≡ suc a
   one-more = omega arith
 
-  skipped : getD w a 0 ≡ 0 → RestoredTo u blot first w left (a + 1)
+  pub skipped : getD w a 0 ≡ 0 → RestoredTo u blot first w left (a + 1)
   unfolding total shareOf sum
   skipped z =
       let f : ℕ → ℕ = λ k. product (getD w k 0) (power α (58 * (62 - k) % 63)) in
@@ -153,9 +182,6 @@ module _ (u : List ℕ) (blot first : ℕ) (w : List ℕ) (left a : ℕ) (t : Re
             ∙ ap (λ (n : ℕ). sum first (total n f)) (sym one-more);
       }
 
-  pub restored-skip : (w′ : List ℕ) (left′ : ℕ) → getD w a 0 ≡ 0 → w′ ≡ w → left′ ≡ left → RestoredTo u blot first w′ left′ (a + 1)
-  restored-skip w′ left′ z ew el = rw ew (rw el (skipped z))
-
   module _ (inside : blot < 63) (word : Word u) (d : getD w a 0 ≡ 0 → ⊥) (v s : ℕ)
       (ev : v ≡ product (getD w a 0) (inverse (sum (placeOf a) (placeOf blot)))) (es : s ≡ shareOf v a) where
     here : getD (set w a v) a 0 ≡ v
@@ -164,7 +190,7 @@ module _ (u : List ℕ) (blot first : ℕ) (w : List ℕ) (left a : ℕ) (t : Re
     there : (k : ℕ) → (k ≡ a → ⊥) → getD (set w a v) k 0 ≡ getD w k 0
     there k = getD-set-other w a k v 0
 
-    divided : RestoredTo u blot first (set w a v) (bitXor left s) (a + 1)
+    pub divided : RestoredTo u blot first (set w a v) (bitXor left s) (a + 1)
     unfolding total sum
     divided =
         record {
@@ -191,10 +217,60 @@ module _ (u : List ℕ) (blot first : ℕ) (w : List ℕ) (left a : ℕ) (t : Re
               ∙ ap (λ (n : ℕ). bitXor first (total n (λ k. shareOf (getD (set w a v) k 0) k))) (sym one-more);
         }
 
-    pub restored-more : (w′ : List ℕ) (left′ : ℕ) → w′ ≡ set w a v → left′ ≡ bitXor left s → RestoredTo u blot first w′ left′ (a + 1)
-    restored-more w′ left′ ew el = rw ew (rw el divided)
+-- ---- from one address of the set to the next
+
+-- addresses that have 0 are passed over
+module _ (u : List ℕ) (blot first : ℕ) (w : List ℕ) (left : ℕ) where
+  over : (a n : ℕ) → a + n ≤ 63 → ((k : ℕ) → a ≤ k → k < a + n → getD w k 0 ≡ 0) → RestoredTo u blot first w left a → RestoredTo u blot first w left (a + n)
+  over a zero h z t = subst (RestoredTo u blot first w left) (sym (add-zero a)) t
+  over a (suc n) h z t =
+      let s : RestoredTo u blot first w left (a + n) = over a n (omega arith) (λ k l b. z k l (omega arith)) t in
+      subst (RestoredTo u blot first w left) (one-further a n) (skipped u blot first w left (a + n) s (omega arith) (z (a + n) (omega arith) (omega arith)))
+    where
+      one-further : (a n : ℕ) → a + n + 1 ≡ a + suc n
+      one-further a n = omega arith
+
+  -- those before the next one of the set
+  jumped : (set a b : ℕ) → Holds set u → FirstFrom set a b → RestoredTo u blot first w left a → RestoredTo u blot first w left b
+  jumped set a b holds next t =
+      let l = next .least in
+      let m = next .most in
+      subst (RestoredTo u blot first w left) (let e : a + (b - a) ≡ b = omega arith in e)
+      (over a (b - a) (omega arith) (λ k g h. t .rest k g ∙ holds .clear k (omega arith) (next .none k g (omega arith))) t)
+
+pub restored-none : (u : List ℕ) (blot first set b : ℕ) → Word u → getD u blot 0 ≡ 0 → Holds set u → FirstFrom set 0 b → RestoredTo u blot first u first b
+restored-none u blot first set b word z holds next = jumped u blot first u first set 0 b holds next (restored-start u blot first (word .long) z)
+
+module _ (u : List ℕ) (blot first : ℕ) (w : List ℕ) (left a : ℕ) (t : RestoredTo u blot first w left a) (more : a < 63) (set b : ℕ) (holds : Holds set u)
+    (given : FirstFrom set ((a + 1) % 64) b) where
+  next : FirstFrom set (a + 1) b
+  next = subst (λ (i : ℕ). FirstFrom set i b) (let e : (a + 1) % 64 ≡ a + 1 = omega arith in e) given
+
+  pub restored-skip : (w′ : List ℕ) (left′ : ℕ) → getD w a 0 ≡ 0 → w′ ≡ w → left′ ≡ left → RestoredTo u blot first w′ left′ b
+  restored-skip w′ left′ z ew el = rw ew (rw el (jumped u blot first w left set (a + 1) b holds next (skipped u blot first w left a t more z)))
+
+  pub restored-more : (w′ : List ℕ) (left′ v s : ℕ) → blot < 63 → Word u → (getD w a 0 ≡ 0 → ⊥) → v ≡ product (getD w a 0) (inverse (sum (placeOf a) (placeOf blot))) → s ≡ shareOf v a
+      → w′ ≡ ListN.set w a v → left′ ≡ bitXor left s → RestoredTo u blot first w′ left′ b
+  restored-more w′ left′ v s inside word d ev es ew el =
+      rw ew (rw el (jumped u blot first (ListN.set w a v) (bitXor left s) set (a + 1) b holds next (divided u blot first w left a t more inside word d v s ev es)))
+
+-- what is divided is a character
+pub divided-small : (v c i : ℕ) → v ≡ product c i → v < 64
+divided-small v c i e = subst (λ (n : ℕ). n < 64) (sym e) (Laws.product-lt c i)
+
+-- the next one is nearer to the end
+pub restored-next : (set a b : ℕ) → a < 63 → FirstFrom set ((a + 1) % 64) b → 63 - b < 63 - a
+restored-next set a b h next = let l = next .least in let m = next .most in omega arith
 
 -- ---- and the blot
+
+-- what is left of S_-5 is an element
+pub left-small : (u : List ℕ) (blot first : ℕ) (w : List ℕ) (left a : ℕ) → first < 64 → RestoredTo u blot first w left a → left < 64
+unfolding shareOf
+left-small u blot first w left a h t =
+    subst (λ (n : ℕ). n < 64) (sym (t .taken))
+    (Laws.sum-lt first (total a (λ k. product (getD w k 0) (power α (58 * (62 - k) % 63)))) h
+    (total-lt a (λ k. product (getD w k 0) (power α (58 * (62 - k) % 63))) (λ k. Laws.product-lt (getD w k 0) (power α (58 * (62 - k) % 63)))))
 
 module _ (u : List ℕ) (blot first : ℕ) (w : List ℕ) (left a v : ℕ) (inside : blot < 63) (element : first < 64) (nothing : getD u blot 0 ≡ 0)
     (t : RestoredTo u blot first w left a) (all : 63 ≤ a) (ev : v ≡ valueOf left blot) where
@@ -203,10 +279,7 @@ module _ (u : List ℕ) (blot first : ℕ) (w : List ℕ) (left a v : ℕ) (insi
   sum-here = t .taken ∙ ap (λ (n : ℕ). sum first (total n (λ k. product (getD w k 0) (power α (58 * (62 - k) % 63))))) (let m = t .most in omega arith)
 
   left-lt : left < 64
-  unfolding powerSum
-  left-lt =
-      subst (λ (n : ℕ). n < 64) (sym sum-here)
-      (Laws.sum-lt first (powerSum 58 w) element (total-lt 63 (λ a. product (getD w a 0) (power α (58 * (62 - a) % 63))) (λ a. Laws.product-lt (getD w a 0) (power α (58 * (62 - a) % 63)))))
+  left-lt = left-small u blot first w left a element t
 
   at-blot : getD (set w blot v) blot 0 ≡ v
   at-blot = getD-set-same w blot v 0 (omega (arith, t .long))
@@ -242,3 +315,12 @@ module _ (u : List ℕ) (blot first : ℕ) (w : List ℕ) (left a v : ℕ) (insi
             ∙ ap (sum (powerSum 58 w)) (share-value left blot left-lt ∙ sum-here ∙ Laws.sum-comm first (powerSum 58 w))
             ∙ Laws.sum-undo (powerSum 58 w) first;
       }
+
+-- what is restored has its addresses in the set and at the blot
+pub holds-restored : (u : List ℕ) (blot first : ℕ) (x : List ℕ) (set : ℕ) → blot < 63 → Holds set u → Restored u blot first x → Holds (bitOr set (2 ^ blot)) x
+holds-restored u blot first x set inside holds back =
+    record {
+      clear = λ k h z.
+          Laws.product-cancel (getD x k 0) (sum (placeOf k) (placeOf blot)) (back .characters k) (factor-pos k blot h inside (set-here set blot k z)) (factor-lt k blot)
+          (sym (back .times k h) ∙ holds .clear k h (set-more set blot k z));
+    }

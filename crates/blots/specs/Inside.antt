@@ -2,7 +2,7 @@
 use mathlib.Core.Path.{_≡_}
 use mathlib.Core.Bool.{true, false}
 use mathlib.Core.List.{List}
-use Prim.Native.Nat.{ℕ, suc, _+_, _-_, _*_, _/_, _%_, _<_, _≤_}
+use Prim.Native.Nat.{ℕ, suc, _+_, _-_, _*_, _/_, _%_, _^_, _<_, _≤_}
 use lib.ListN.{length, getD, replicate}
 use Rattle.field.specs.Field.{sum, product, α, power}
 use Rattle.polynomial.specs.Sums.{weight}
@@ -30,6 +30,10 @@ pub record LastSet (bs : List ℕ) (n : ℕ) : Type 0 where
   pub there : n < 63 → getD bs n 0 ≡ 0 → ⊥
   pub none : n ≡ 63 → (k : ℕ) → k < 63 → getD bs k 0 ≡ 0
 
+-- each of 63 that is not 0 has its bit set
+pub record Holds (set : ℕ) (bs : List ℕ) : Type 0 where
+  pub clear : (k : ℕ) → k < 63 → set / 2 ^ k % 2 ≡ 0 → getD bs k 0 ≡ 0
+
 -- ---- errors
 
 -- 63 characters whose first c power sums, from S_-5 on, are s, e of them outside the f blots, with 2 e + f at most c
@@ -42,11 +46,13 @@ pub record FitsBlotted (s : List ℕ) (c : ℕ) (m x : List ℕ) : Type 0 where
 -- those that fit, or none do
 pub record Finds (s : List ℕ) (c : ℕ) (m : List ℕ) (r : Errors) : Type 0 where
   pub fits : r .found ≡ true → FitsBlotted s c m (r .word)
+  pub holds : r .found ≡ true → Holds (r .set) (r .word)
   pub none : r .found ≡ false → (x : List ℕ) → FitsBlotted s c m x → ⊥
 
 -- the same where there is no blot
 pub record FindsWithout (s : List ℕ) (c : ℕ) (r : Errors) : Type 0 where
   pub fits : r .found ≡ true → Fits s c (c / 2) (r .word)
+  pub holds : r .found ≡ true → Holds (r .set) (r .word)
   pub none : r .found ≡ false → (x : List ℕ) → Fits s c (c / 2) x → ⊥
 
 -- errors with which a word of 63 characters is the line, or there is no such line

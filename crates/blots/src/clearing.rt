@@ -2,11 +2,11 @@
 ghost use mathlib.Core.Path.{_≡_};
 ghost use Prim.Native.Nat.{_<_};
 ghost use lib.ListN.{getD};
-ghost use Rattle.field.specs.Field.{sum, product};
+ghost use Rattle.field.specs.Field.{sum, product, α, power};
 ghost use Rattle.mender.specs.Mender.{Word};
 ghost use Rattle.field.specs.Inside.{inverse};
 ghost use Rattle.sums.specs.Held.{eleven};
-ghost use Rattle.blots.specs.Inside.{placeOf, Cleared, Restored, shareOf, valueOf};
+ghost use Rattle.blots.specs.Inside.{Holds, placeOf, Cleared, Restored, shareOf, valueOf};
 use super::LINE;
 use lanes::NINE_LANES;
 use sums::Sums;
@@ -31,22 +31,24 @@ pub fn cleared(sums: Sums, place: u8) -> Sums
 }
 
 // The errors that are cleared so, S_-5 of which is known: at every address but the blot's the factor is divided out again, and the blot has what is
-// left of S_-5.
-pub fn restored(cleared: [u8; 63], blot: usize, first: u8) -> [u8; 63]
+// left of S_-5. No address has a character that is not 0 but those of the set.
+pub fn restored(cleared: [u8; 63], set: u64, blot: usize, first: u8) -> [u8; 63]
     requires { ⌜ (blot < 63) × (getD cleared blot 0 ≡ 0) × (first < 64) ⌝ }
     requires { ⌜ Word cleared ⌝ }
+    requires { ⌜ Holds set cleared ⌝ }
     ensures { λ r. ⌜ Restored cleared blot first r ⌝ }
 {
     let mut w = cleared;
     let mut left = first;
-    let mut a: usize = 0;
+    let mut a = planes::first_from(set, 0);
     while a < LINE {
         if w[a] != 0 {
             let v = divided(w[a], a, blot);
             w[a] = v;
             left = left ^ share(v, a);
         }
-        a += 1;
+        let next = planes::first_from(set, a + 1);
+        a = next;
     }
     w[blot] = value(left, blot);
     w
@@ -55,23 +57,36 @@ pub fn restored(cleared: [u8; 63], blot: usize, first: u8) -> [u8; 63]
 // A character without the factor that its place and that of the blot make: they differ, so this is not 0.
 fn divided(v: u8, address: usize, blot: usize) -> u8
     requires { ⌜ (address < 63) × (blot < 63) × (address ≡ blot → ⊥) ⌝ }
+    requires { ⌜ (v < 64) × (v ≡ 0 → ⊥) ⌝ }
     ensures { λ r. ⌜ r ≡ product v (inverse (sum (placeOf address) (placeOf blot))) ⌝ }
 {
-    lanes::times(v, field::inverse(place(address) ^ place(blot)))
+    let inverse = field::inverse(place(address) ^ place(blot));
+    times_power(inverse, places::log_of(v))
 }
 
 // What a character has of S_-5.
 fn share(v: u8, address: usize) -> u8
-    requires { ⌜ address < 63 ⌝ }
+    requires { ⌜ (v < 64) × (address < 63) ⌝ }
     ensures { λ r. ⌜ r ≡ shareOf v address ⌝ }
 {
-    lanes::times(v, places::power_of((58 * (62 - address) % 63) as u8))
+    times_power(v, (58 * (62 - address) % 63) as u8)
 }
 
 // The character that has so much of it.
 fn value(share: u8, address: usize) -> u8
-    requires { ⌜ address < 63 ⌝ }
+    requires { ⌜ (share < 64) × (address < 63) ⌝ }
     ensures { λ r. ⌜ r ≡ valueOf share address ⌝ }
 {
-    lanes::times(share, places::power_of((5 * (62 - address) % 63) as u8))
+    times_power(share, (5 * (62 - address) % 63) as u8)
+}
+
+// A character times a power of α, by logarithms: 0 has none.
+fn times_power(v: u8, l: u8) -> u8
+    requires { ⌜ (v < 64) × (l < 63) ⌝ }
+    ensures { λ r. ⌜ r ≡ product v (power α l) ⌝ }
+{
+    if v == 0 {
+        return 0;
+    }
+    places::power_of((places::log_of(v) + l) % 63)
 }

@@ -1,14 +1,14 @@
 // Reading a line with blots: the line that differs from the word in e characters outside the f blots, 2 e + f at most 11.
 ghost use mathlib.Core.Path.{_≡_};
 ghost use mathlib.Core.Bool.{false};
-ghost use Prim.Native.Nat.{_≤_};
+ghost use Prim.Native.Nat.{_^_, _<_, _≤_};
 ghost use lib.ListN.{length};
 ghost use Rattle.refusal.specs.Promise.{Tells};
 ghost use Rattle.polynomial.specs.Sums.{weight};
 ghost use Rattle.sums.specs.Held.{eleven};
 ghost use Rattle.line.specs.Promises.{readingNumbers};
 ghost use Rattle.blots.specs.Promises.{Marked, ReadsBlotted};
-ghost use Rattle.blots.specs.Inside.{NoneBefore, FirstSet, LastSet, Finds, FindsWithout, FindsNear};
+ghost use Rattle.blots.specs.Inside.{NoneBefore, FirstSet, LastSet, Holds, Finds, FindsWithout, FindsNear};
 use line::LineReading;
 use refusal::Refusal;
 use sums::Sums;
@@ -21,10 +21,11 @@ const LINE: usize = 63;
 // The power sums. They tell the characters at as many blots, and no more.
 const SUMS: usize = 11;
 
-// What is to be added to a word, if that can be told.
+// What is to be added to a word, if that can be told, and a bit for each address at which it may not be 0.
 struct Errors {
     found: bool,
     word: [u8; 63],
+    set: u64,
 }
 
 // Reads a line with blots: the map has 1 for a blot and 0 for none. Writes the line that differs from the word so little outside the blots that there
@@ -167,8 +168,12 @@ fn errors_of(sums: Sums, c: usize, map: [u8; 63], from: usize) -> Errors
         return none();
     }
     let first = (sums.first % 64) as u8;
-    let word = clearing::restored(pattern, blot, first);
-    Errors { found: true, word }
+    let word = clearing::restored(pattern, cleared.set, blot, first);
+    Errors {
+        found: true,
+        word: word,
+        set: cleared.set | bit(blot),
+    }
 }
 
 // The errors with the first c of these sums where there is no blot.
@@ -178,10 +183,41 @@ fn errors_without(sums: Sums, c: usize) -> Errors
 {
     let mended = mender::mend_first(sums, c, c / 2);
     let word = mended.word;
+    if mended.weight == 0 {
+        return Errors {
+            found: mended.found,
+            word: word,
+            set: 0,
+        };
+    }
     Errors {
         found: mended.found,
         word: word,
+        set: set_of(word),
     }
+}
+
+// The bit of an address.
+fn bit(address: usize) -> u64
+    requires { ⌜ address < 63 ⌝ }
+    ensures { λ r. ⌜ r ≡ 2 ^ address ⌝ }
+{
+    1 << address
+}
+
+// A bit for each byte that is not 0.
+fn set_of(bytes: [u8; 63]) -> u64
+    ensures { λ r. ⌜ Holds r bytes ⌝ }
+{
+    let mut set: u64 = 0;
+    let mut a: usize = 0;
+    while a < LINE {
+        if bytes[a] != 0 {
+            set = set | bit(a);
+        }
+        a += 1;
+    }
+    set
 }
 
 fn none() -> Errors
@@ -190,5 +226,6 @@ fn none() -> Errors
     Errors {
         found: false,
         word: [0u8; 63],
+        set: 0,
     }
 }

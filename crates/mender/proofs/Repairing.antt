@@ -30,8 +30,8 @@ use Rattle.sums.proofs.Holding.{eleven-first, eleven-last, eleven-long, eleven-
 use Rattle.mender.specs.declared.Mended.{Mended}
 use Rattle.mender.specs.declared.Single.{Single}
 use Rattle.mender.specs.Mender.{Fits, MendsTo, Mends, Nearest, HasSums}
-use Rattle.mender.specs.Inside.{Nothing, Agree}
-use Rattle.mender.specs.Found.{lone, OneError, ElementsTo, Clear, Repairs, Without, Corrects, sixth}
+use Rattle.mender.specs.Inside.{Nothing}
+use Rattle.mender.specs.Found.{lone, OneError, ElementsTo, ZeroTo, Clear, Repairs, Without, Corrects, sixth}
 use Rattle.mender.proofs.OneError.{lone-long, lone-here, lone-other, lone-weight, weight-nothing, sums-nothing}
 use Rattle.mender.proofs.Finding.{true-false, found-none, none-near, one-near, nearest-none, mended}
 
@@ -252,14 +252,14 @@ mended-eleven s e x m q f = subst (λ (k : ℕ). MendsTo s 11 k m) q f
 
 -- ---- the first c of them
 
-module _ (h : Sums) (s z : List ℕ) (c e x : ℕ) (b : Bool) (ex : x ≡ min c 11) (es : s ≡ eleven h) (t : Tells (Agree s z x) b) where
-  pub first-none : z ≡ replicate 11 0 → b ≡ true → Mends (eleven h) c e (record { found = true; weight = 0; first = 63; last = 63; word = replicate 63 0 })
-  first-none ez q =
+module _ (h : Sums) (s : List ℕ) (c e x : ℕ) (b : Bool) (ex : x ≡ min c 11) (es : s ≡ eleven h) (t : Tells (ZeroTo s x) b) where
+  pub first-none : b ≡ true → Mends (eleven h) c e (record { found = true; weight = 0; first = 63; last = 63; word = replicate 63 0 })
+  first-none q =
       mended (eleven h) c e x (min e (x / 2)) (record { found = true; weight = 0; first = 63; last = 63; word = replicate 63 0 }) ex refl
       (record {
         fits = λ _.
             nothing-fits (eleven h) x (min e (x / 2))
-            (λ k l. ap (λ (u : List ℕ). getD u k 0) (sym es) ∙ t .holds q k l ∙ ap (λ (u : List ℕ). getD u k 0) ez ∙ zero-get 11 k);
+            (λ k l. ap (λ (u : List ℕ). getD u k 0) (sym es) ∙ t .holds q k l);
         weighs = λ _. sym (weight-nothing 63);
         ends = λ _. ends-none;
         none = λ f. absurd (true-false f);

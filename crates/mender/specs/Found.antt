@@ -29,6 +29,10 @@ pub record OneError (s : List ℕ) (o : Single) : Type 0 where
 abbrev pub ElementsTo : List ℕ → ℕ → Type 0
 ElementsTo s c = (k : ℕ) → k < c → getD s k 0 < 64
 
+-- they are all 0
+abbrev pub ZeroTo : List ℕ → ℕ → Type 0
+ZeroTo s c = (k : ℕ) → k < c → getD s k 0 ≡ 0
+
 -- eleven sums that are all 0
 pub record Clear (s : List ℕ) : Type 0 where
   pub zero : (k : ℕ) → k < 11 → getD s k 0 ≡ 0

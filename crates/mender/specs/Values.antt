@@ -19,13 +19,6 @@ use Rattle.mender.specs.Inside.{mixed, coef, ValuedFrom}
 
 -- ---- the roots from a place on
 
--- r is the first place from `from` on whose bit is set, of 63; or none is, and r is 63
-pub record RootFrom (roots from r : ℕ) : Type 0 where
-  pub least : from ≤ r
-  pub most : r ≤ 63
-  pub none : (l : ℕ) → from ≤ l → l < r → roots / 2 ^ l % 2 ≡ 0
-  pub here : r < 63 → roots / 2 ^ r % 2 ≡ 1
-
 -- the first of n bits from l on that is set, or the one after them
 unfoldable pub firstSet : ℕ → ℕ → ℕ → ℕ
 firstSet zero roots l = l

@@ -7,7 +7,7 @@ ghost use Rattle.refusal.specs.Promise.{Tells};
 ghost use Rattle.code.specs.Word.{added};
 ghost use Rattle.sums.specs.Held.{eleven};
 ghost use Rattle.mender.specs.Mender.{MendsTo, Mends, NearestWith, NearestClean};
-ghost use Rattle.mender.specs.Found.{lone, OneError, ElementsTo, Clear, Repairs, Without, Corrects, sixth};
+ghost use Rattle.mender.specs.Found.{lone, OneError, ElementsTo, ZeroTo, Clear, Repairs, Without, Corrects, sixth};
 ghost use Rattle.mender.specs.Inside.{Agree, Nothing};
 use lanes::FIVE_LANES;
 use lanes::NINE_LANES;
@@ -62,7 +62,7 @@ pub fn mend_first(sums: Sums, c: usize, e: usize) -> Mended
     ensures { λ r. ⌜ Mends (eleven sums) c e r ⌝ }
 {
     let most = least(c, 11);
-    if agree(sums::unpacked(sums), [0u8; 11], most) {
+    if zero_to(sums::unpacked(sums), most) {
         return Mended {
             found: true,
             weight: 0,
@@ -178,6 +178,21 @@ fn elements_to(sums: [u8; 11], c: usize) -> bool
     let mut k: usize = 0;
     while k < c {
         if sums[k] > 63 {
+            return false;
+        }
+        k += 1;
+    }
+    true
+}
+
+// Whether the first c sums are all 0.
+fn zero_to(sums: [u8; 11], c: usize) -> bool
+    requires { ⌜ c ≤ 11 ⌝ }
+    ensures { λ r. ⌜ Tells (ZeroTo sums c) r ⌝ }
+{
+    let mut k: usize = 0;
+    while k < c {
+        if sums[k] != 0 {
             return false;
         }
         k += 1;

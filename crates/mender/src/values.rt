@@ -2,7 +2,7 @@
 ghost use mathlib.Core.Path.{_≡_};
 ghost use Prim.Native.Nat.{_^_, _<_, _≤_};
 ghost use Rattle.mender.specs.Rows.{Coefficients};
-ghost use Rattle.mender.specs.Values.{RootFrom, Patterned, Placed, PlacesFrom, QuotientsIn, QuotientsAhead, QuotientNext, BothAt, Spread, lastOf, inverseOrNone, InversesIn, Raised, NumeratorIn, DenominatorIn, FractionIn, Kills};
+ghost use Rattle.mender.specs.Values.{Patterned, Placed, PlacesFrom, QuotientsIn, QuotientsAhead, QuotientNext, BothAt, Spread, lastOf, inverseOrNone, InversesIn, Raised, NumeratorIn, DenominatorIn, FractionIn, Kills};
 use super::NOWHERE;
 use super::least;
 use lanes::FIVE_LANES;
@@ -52,7 +52,7 @@ fn placed(roots: u64, f: u64, n: usize) -> Pattern
     let mut last: u8 = NOWHERE;
     let mut values: u64 = 0;
     let mut left: usize = 0;
-    let mut l = root_from(roots, 0);
+    let mut l = planes::first_from(roots, 0);
     while l < 63 {
         let ahead = looked_ahead(Ahead { values, left }, f, n, roots, l);
         let v = (ahead.values % 64) as u8;
@@ -64,7 +64,7 @@ fn placed(roots: u64, f: u64, n: usize) -> Pattern
         }
         values = ahead.values / 64;
         left = ahead.left - 1;
-        let after = root_from(roots, l + 1);
+        let after = planes::first_from(roots, l + 1);
         l = after;
     }
     Pattern {
@@ -83,15 +83,6 @@ fn last_of(last: u8, address: u8) -> u8
         return address;
     }
     last
-}
-
-// The first set bit from a place on, or 63: bit 63 is set to stop at.
-fn root_from(roots: u64, from: usize) -> usize
-    requires { ⌜ from ≤ 63 ⌝ }
-    ensures { λ r. ⌜ RootFrom roots from r ⌝ }
-{
-    let rest = (roots % planes::PAST_PLACES + planes::PAST_PLACES) >> from;
-    from + u64::trailing_zeros(rest) as usize
 }
 
 // The values at the next roots from l on: those of the next five where none is left. A locator that is not 0 has no more.
@@ -117,7 +108,7 @@ fn places_from(roots: u64, l: usize) -> u64
     let mut i: usize = 0;
     while i < 5 {
         x = x / 64 + places::power_of(at as u8) as u64 * FOUR_LANES;
-        let after = root_from(roots, least(at + 1, 63));
+        let after = planes::first_from(roots, least(at + 1, 63));
         at = after;
         i += 1;
     }

@@ -2,16 +2,16 @@
 use mathlib.Core.Path.{_≡_, sym, _∙_}
 use mathlib.Core.List.{List}
 use mathlib.Core.Logic.{⊎-elim}
-use Prim.Native.Nat.{ℕ, _/_, _%_, _^_, _<_}
+use Prim.Native.Nat.{ℕ, _/_, _%_, _^_, _<_, _≤_}
 use native.Mathlib.Nat.{mod-eq-of-lt}
 use native.Mathlib.Omega.{arith}
-use Rattle.numbers.proofs.Cases.{same-or-not}
+use Rattle.numbers.proofs.Cases.{le-or-lt, same-or-not}
 use Rattle.numbers.proofs.Bits.{same-in-all, same-telling}
 use Rattle.field.specs.Field.{α, power}
 use Rattle.polynomial.specs.Polynomial.{polyAt, Elements}
 use Rattle.polynomial.proofs.Division.{poly-small}
 use Rattle.planes.specs.declared.Planes.{Planes}
-use Rattle.planes.specs.Roots.{RootsOf}
+use Rattle.planes.specs.Roots.{RootsOf, FirstFrom}
 use Rattle.planes.specs.Slices.{elementAt, Everywhere, Added, ZerosOf}
 use Rattle.planes.specs.Crossed.{Crossed}
 
@@ -64,3 +64,15 @@ one-crossed a x b y r s f g = same-planes r s (λ l. f .at l ∙ sym (g .at l))
 -- any two results of everywhere have the same element at each of the 63 places; of the bit past them the contract says nothing
 pub one-everywhere : (c : ℕ) (r s : Planes) → Everywhere c r → Everywhere c s → (l : ℕ) → l < 63 → elementAt r l ≡ elementAt s l
 one-everywhere c r s f g l h = f .at l h ∙ sym (g .at l h)
+
+-- there is one first bit from a place on that is set
+pub one-first : (bits from r t : ℕ) → FirstFrom bits from r → FirstFrom bits from t → r ≡ t
+one-first bits from r t a b =
+    ⊎-elim (λ (g : r ≤ t). ⊎-elim (λ (h : t ≤ r). omega arith) (λ (h : r < t). absurd (clash r t a b h)) (le-or-lt t r))
+    (λ (g : t < r). absurd (clash t r b a g)) (le-or-lt r t)
+  where
+    clash : (r t : ℕ) → FirstFrom bits from r → FirstFrom bits from t → r < t → ⊥
+    clash r t a b h =
+        let o : bits / 2 ^ r % 2 ≡ 1 = a .here (omega (arith, b .most)) in
+        let z : bits / 2 ^ r % 2 ≡ 0 = b .none r (a .least) h in
+        omega arith

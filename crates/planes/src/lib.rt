@@ -1,5 +1,6 @@
 // 64 elements at a time, a word of 64 bits for each of their six bits: their sums and products, and the roots of a polynomial among the 63 powers of α, all at once.
-ghost use Rattle.planes.specs.Roots.{RootsOf};
+ghost use Prim.Native.Nat.{_%_};
+ghost use Rattle.planes.specs.Roots.{RootsOf, FirstFrom};
 ghost use Rattle.planes.specs.Slices.{BitSpread, Everywhere, Doubled, Added, OnlyAt, NextBit, PlaceMultiplied, ZerosOf};
 ghost use Rattle.planes.specs.Crossed.{Crossed, Squared};
 
@@ -19,7 +20,7 @@ const PLACE_5: u64 = 9127914245025074208;
 // A bit for each of the 63 places, and the bit past them.
 const ALL_PLACES: u64 = 9223372036854775807;
 
-pub const PAST_PLACES: u64 = 9223372036854775808;
+const PAST_PLACES: u64 = 9223372036854775808;
 
 // Elements at 64 places: bit l of plane t is bit t of the element at l.
 pub struct Planes {
@@ -43,6 +44,15 @@ pub fn roots(p: [u8; 6]) -> u64
         v = t;
     }
     zeros(v)
+}
+
+// The first of the 63 bits from a place on that is set, or 63: the place counts modulo 64. The bit past them is set to stop at.
+pub fn first_from(bits: u64, from: usize) -> usize
+    ensures { λ r. ⌜ FirstFrom bits (from % 64) r ⌝ }
+{
+    let place = from % 64;
+    let rest = (bits % PAST_PLACES + PAST_PLACES) >> place;
+    place + u64::trailing_zeros(rest) as usize
 }
 
 // The lowest bit of c at each of 63 places.

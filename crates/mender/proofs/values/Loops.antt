@@ -20,7 +20,8 @@ use Rattle.lanes.specs.Lanes.{pack, lane}
 use Rattle.lanes.proofs.Laws.{lane-lt, lane-zero, lane-suc, lane-xor}
 use Rattle.polynomial.specs.Polynomial.{polyAt}
 use Rattle.code.specs.Word.{listed}
-use Rattle.mender.specs.Values.{RootFrom, rootAfter, rootAt, PlacesFrom, evaluated, numeratorAt, denominatorAt, numeratorOf, NumeratorIn, Spread, BothAt, InversesIn, inverseOrNone, Raised}
+use Rattle.planes.specs.Roots.{FirstFrom}
+use Rattle.mender.specs.Values.{rootAfter, rootAt, PlacesFrom, evaluated, numeratorAt, denominatorAt, numeratorOf, NumeratorIn, Spread, BothAt, InversesIn, inverseOrNone, Raised}
 use Rattle.mender.proofs.rows.Weaving.{lane-none}
 use Rattle.mender.proofs.values.Lanes.{low-lanes, products-lane, scale-lane, pushed-below, pushed-more, joined-low, joined-high}
 use Rattle.mender.proofs.values.Roots.{root-after, root-last}
@@ -48,7 +49,7 @@ place-fits c a e = omega (arith, place-below c a e)
 pub places-fit : (roots l x at i c : ℕ) → PlacesTo roots l x at i → c ≡ power α (at % 64) → x / 64 + c * 16777216 < 18446744073709551616
 places-fit roots l x at i c a e = let b = a .below in omega (arith, place-below c at e)
 
-pub places-again : (roots l x at i c t next : ℕ) → i < 5 → PlacesTo roots l x at i → c ≡ power α (at % 64) → t ≡ min (at + 1) 63 → RootFrom roots t next
+pub places-again : (roots l x at i c t next : ℕ) → i < 5 → PlacesTo roots l x at i → c ≡ power α (at % 64) → t ≡ min (at + 1) 63 → FirstFrom roots (t % 64) next
     → PlacesTo roots l (x / 64 + c * 16777216) next (i + 1)
 places-again roots l x at i c t next h a e et n =
     let small : c < 64 = place-below c at e in
@@ -56,7 +57,7 @@ places-again roots l x at i c t next h a e et n =
       most = omega arith;
       inside = n .most;
       below = pushed-below x c (a .below) small;
-      here = root-after roots at next (subst (λ (m : ℕ). RootFrom roots m next) et n) ∙ ap (rootAfter roots) (a .here) ∙ sym (root-last roots l i) ∙ ap (rootAt roots l) (sym (add-one i));
+      here = root-after roots at next (subst (λ (m : ℕ). FirstFrom roots m next) (let q : t % 64 ≡ min (at + 1) 63 = omega arith in q) n) ∙ ap (rootAfter roots) (a .here) ∙ sym (root-last roots l i) ∙ ap (rootAt roots l) (sym (add-one i));
       done =
           pushed-more x c (a .below) small i (λ j. power α (rootAt roots l j)) h (a .done)
           (e ∙ ap (power α) (mod-eq-of-lt (let b = a .inside in omega arith) ∙ a .here));

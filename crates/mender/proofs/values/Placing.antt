@@ -26,11 +26,12 @@ use Rattle.mender.specs.declared.values.Pattern.{Pattern}
 use Rattle.mender.specs.declared.values.Ahead.{Ahead}
 use Rattle.mender.specs.Inside.{valueOf}
 use Rattle.mender.specs.Rows.{Coefficients}
-use Rattle.mender.specs.Values.{RootFrom, Patterned, rootAfter, rootAt, numeratorAt, denominatorAt, numeratorOf, denominatorOf, quotientAt, FractionIn, QuotientsAhead, QuotientNext, Placed, lastOf, Kills, inverseOrNone}
+use Rattle.planes.specs.Roots.{FirstFrom}
+use Rattle.mender.specs.Values.{Patterned, rootAfter, rootAt, numeratorAt, denominatorAt, numeratorOf, denominatorOf, quotientAt, FractionIn, QuotientsAhead, QuotientNext, Placed, lastOf, Kills, inverseOrNone}
 use Rattle.mender.proofs.OneError.{weight-set, weight-nothing, nonzero-pos}
 use Rattle.mender.proofs.values.Fractions.{window-is, slope-is, value-is-quotient}
 use Rattle.mender.proofs.rows.Loops.{coefficients-small}
-use Rattle.mender.proofs.values.Roots.{root-after}
+use Rattle.mender.proofs.values.Roots.{root-after, root-next}
 
 -- ---- placed: the roots below l have their values, and no other place has one
 
@@ -46,7 +47,7 @@ pub record PlacedTo (roots f n : ℕ) (w : List ℕ) (count first last values le
   pub weighs : count ≡ weight w
   pub ends : Ends (replicate 63 0) w first last
 
-pub placed-none : (r f n l : ℕ) → n ≤ 5 → RootFrom r 0 l → PlacedTo r f n (replicate 63 0) 0 63 63 0 0 l
+pub placed-none : (r f n l : ℕ) → n ≤ 5 → FirstFrom r 0 l → PlacedTo r f n (replicate 63 0) 0 63 63 0 0 l
 placed-none r f n l h a =
     record {
       few = h;
@@ -76,7 +77,10 @@ unfolding lastOf
 last-some last address d = sym (ap (λ (b : Bool). cond b address last) (ne-eqb last 63 d))
 
 module _ (r f n : ℕ) (w : List ℕ) (count first last values left l : ℕ) (y : Ahead) (l′ : ℕ) (h : l < 63)
-    (a : PlacedTo r f n w count first last values left l) (q : QuotientNext f n r l y) (next : RootFrom r (l + 1) l′) where
+    (a : PlacedTo r f n w count first last values left l) (q : QuotientNext f n r l y) (given : FirstFrom r ((l + 1) % 64) l′) where
+  next : FirstFrom r (l + 1) l′
+  next = root-next r l l′ h given
+
   v : ℕ
   v = y .values % 64
 
@@ -98,7 +102,7 @@ module _ (r f n : ℕ) (w : List ℕ) (count first last values left l : ℕ) (y 
   unfolding rootAt
   moved =
       let m : l + 1 ≡ min (l + 1) 63 = omega arith in
-      let e : l′ ≡ rootAfter r l = root-after r l l′ (subst (λ (m : ℕ). RootFrom r m l′) m next) in
+      let e : l′ ≡ rootAfter r l = root-after r l l′ (subst (λ (m : ℕ). FirstFrom r m l′) m next) in
       record {
         few = (let g = q .ahead .few in omega arith);
         at = λ j b. sym (lane-suc (y .values) j) ∙ q .ahead .at (suc j) (omega arith) ∙ ap (λ (m : ℕ). quotientAt f n (power α (rootAt r m j))) (sym e);

@@ -1,129 +1,27 @@
--- The roots of a locator, as the set bits of a number: the first from a place on, and those after it.
+-- The roots of a locator, as the set bits of a number: those after a place.
 use mathlib.Core.Path.{_≡_, refl, sym, ap, _∙_, subst}
 use mathlib.Core.Logic.{⊎-elim}
 use Prim.Native.Nat.{ℕ, zero, suc, min, _+_, _-_, _*_, _/_, _%_, _^_, _<_, _≤_}
-use native.Mathlib.Nat.{pow-suc, div-one, zero-div}
 use native.Mathlib.Omega.{arith}
 use borrow.Author.Tests.{eq-eqb, ne-eqb}
-use lib.Count.{trailingZeros, under, trailing-le}
-use lib.Pow.{shr-shr, shr-le, field, mod-mod-pow}
-use Rattle.numbers.proofs.Cases.{le-or-lt, same-or-not, pos-of-not-zero}
-use Rattle.numbers.proofs.Bits.{halved}
-use Rattle.mender.specs.Values.{RootFrom, firstSet, rootAfter, rootAt}
-
--- ---- the zeros below the lowest set bit
-
--- below it every bit is 0, and it is 1
-pub record Lowest (n t : ℕ) : Type 0 where
-  pub below : (i : ℕ) → i < t → n / 2 ^ i % 2 ≡ 0
-  pub here : n / 2 ^ t % 2 ≡ 1
-
-lowest-even : (n t : ℕ) → n % 2 ≡ 0 → Lowest (n / 2) t → Lowest n (suc t)
-lowest-even n t e h =
-    record {
-      below = λ i l. at i l;
-      here = ap (λ (m : ℕ). m % 2) (sym (halved n t)) ∙ h .here;
-    }
-  where
-    at : (i : ℕ) → i < suc t → n / 2 ^ i % 2 ≡ 0
-    at zero l = ap (λ (m : ℕ). m % 2) (div-one n) ∙ e
-    at (suc i) l = ap (λ (m : ℕ). m % 2) (sym (halved n i)) ∙ h .below i (omega arith)
-
-lowest-odd : (n : ℕ) → n % 2 ≡ 1 → Lowest n 0
-lowest-odd n e = record { below = λ i l. absurd (omega arith); here = ap (λ (m : ℕ). m % 2) (div-one n) ∙ e }
-
--- the lowest digit is 0 or 1
-lowest-at : (n d t : ℕ) → d ≡ n % 2 → (n % 2 ≡ 0 → Lowest (n / 2) t) → Lowest n (under d t)
-lowest-at n zero t e h = lowest-even n t (sym e) (h (sym e))
-lowest-at n (suc zero) t e h = lowest-odd n (sym e)
-lowest-at n (suc (suc d)) t e h = absurd (omega arith)
-
-pub trailing-lowest : (k n : ℕ) → 0 < n → n < 2 ^ k → Lowest n (trailingZeros k n)
-unfolding trailingZeros
-trailing-lowest zero n p h = absurd (omega arith)
-trailing-lowest (suc k) n p h =
-    let g : n < 2 ^ k * 2 = subst (λ (m : ℕ). n < m) (pow-suc 2 k) h in
-    lowest-at n (n % 2) (trailingZeros k (n / 2)) refl (λ e. trailing-lowest k (n / 2) (omega arith) (omega arith))
-
--- ---- root_from: the first set bit from a place on
-
-pub trailing-fits : (n : ℕ) → trailingZeros 64 n < 18446744073709551616
-trailing-fits n = let h : trailingZeros 64 n ≤ 64 = trailing-le 64 n in omega arith
-
-below-63 : (n l : ℕ) → l < 63 → n % 2 ^ 63 / 2 ^ l % 2 ≡ n / 2 ^ l % 2
-below-63 n l h =
-    let e : 63 ≡ (62 - l) + 1 + l = omega arith in
-    ap (λ (m : ℕ). n % 2 ^ m / 2 ^ l % 2) e ∙ ap (λ (m : ℕ). m % 2) (field n (62 - l + 1) l) ∙ mod-mod-pow (n / 2 ^ l) (62 - l) 1
-
--- the roots, and a bit after them
-module _ (roots from rest : ℕ) (h : from ≤ 63) (e : rest ≡ (roots % 9223372036854775808 + 9223372036854775808) / 2 ^ from) where
-  marked : ℕ
-  marked = roots % 9223372036854775808 + 9223372036854775808
-
-  whole : marked < 2 ^ 64
-  unfolding marked
-  whole = omega arith
-
-  at : (i : ℕ) → rest / 2 ^ i ≡ marked / 2 ^ (from + i)
-  unfolding marked
-  at i = ap (λ (m : ℕ). m / 2 ^ i) e ∙ shr-shr marked from i
-
-  bit : (i : ℕ) → from + i < 63 → rest / 2 ^ i % 2 ≡ roots / 2 ^ (from + i) % 2
-  unfolding marked
-  bit i l =
-      ap (λ (m : ℕ). m % 2) (at i) ∙ sym (below-63 marked (from + i) l)
-      ∙ ap (λ (m : ℕ). m / 2 ^ (from + i) % 2) (omega arith) ∙ below-63 roots (from + i) l
-
-  top : rest / 2 ^ (63 - from) % 2 ≡ 1
-  unfolding marked
-  top =
-      let k : from + (63 - from) ≡ 63 = omega arith in
-      ap (λ (m : ℕ). m % 2) (at (63 - from)) ∙ ap (λ (k : ℕ). marked / 2 ^ k % 2) k ∙ omega arith
-
-  some : rest ≡ 0 → ⊥
-  some z = let t : 0 / 2 ^ (63 - from) % 2 ≡ 1 = subst (λ (n : ℕ). n / 2 ^ (63 - from) % 2 ≡ 1) z top in let n : 0 / 2 ^ (63 - from) ≡ 0 = zero-div (2 ^ (63 - from)) in omega arith
-
-  fits : rest < 2 ^ 64
-  unfolding marked
-  fits = let l : marked / 2 ^ from ≤ marked = shr-le marked from in let b = whole in omega arith
-
-  low : Lowest rest (trailingZeros 64 rest)
-  low = trailing-lowest 64 rest (pos-of-not-zero rest some) fits
-
-  pub inside : from + trailingZeros 64 rest ≤ 63
-  inside =
-      ⊎-elim (λ (g : from + trailingZeros 64 rest ≤ 63). g)
-      (λ (g : 63 < from + trailingZeros 64 rest).
-      absurd (let z : rest / 2 ^ (63 - from) % 2 ≡ 0 = low .below (63 - from) (omega arith) in let o = top in omega arith))
-      (le-or-lt (from + trailingZeros 64 rest) 63)
-
-  pub next-root : RootFrom roots from (from + trailingZeros 64 rest)
-  next-root =
-      let b = inside in
-      record {
-        least = omega arith;
-        most = b;
-        none = λ l g c.
-            let q : from + (l - from) ≡ l = omega arith in
-            ap (λ (m : ℕ). roots / 2 ^ m % 2) (sym q) ∙ sym (bit (l - from) (omega arith)) ∙ low .below (l - from) (omega arith);
-        here = λ g. sym (bit (trailingZeros 64 rest) g) ∙ low .here;
-      }
-
--- ---- the roots after a place
+use Rattle.numbers.proofs.Cases.{le-or-lt, same-or-not}
+use Rattle.planes.specs.Roots.{FirstFrom}
+use Rattle.planes.proofs.Theorems.{one-first}
+use Rattle.mender.specs.Values.{firstSet, rootAfter, rootAt}
 
 -- no bit that is set is passed over
-first-set : (n roots l : ℕ) → n + l ≡ 63 → RootFrom roots l (firstSet n roots l)
+first-set : (n roots l : ℕ) → n + l ≡ 63 → FirstFrom roots l (firstSet n roots l)
 unfolding firstSet
 first-set zero roots l e = record { least = omega arith; most = omega arith; none = λ k g b. absurd (omega arith); here = λ b. absurd (omega arith) }
 first-set (suc n) roots l e =
-    ⊎-elim (λ (z : roots / 2 ^ l % 2 ≡ 0). subst (RootFrom roots l) (sym (simp (eq-eqb (roots / 2 ^ l % 2) 0 z))) (passed (firstSet n roots (suc l)) z (first-set n roots (suc l) (omega arith))))
-    (λ (d : roots / 2 ^ l % 2 ≡ 0 → ⊥). subst (RootFrom roots l) (sym (simp (ne-eqb (roots / 2 ^ l % 2) 0 d))) (found d))
+    ⊎-elim (λ (z : roots / 2 ^ l % 2 ≡ 0). subst (FirstFrom roots l) (sym (simp (eq-eqb (roots / 2 ^ l % 2) 0 z))) (passed (firstSet n roots (suc l)) z (first-set n roots (suc l) (omega arith))))
+    (λ (d : roots / 2 ^ l % 2 ≡ 0 → ⊥). subst (FirstFrom roots l) (sym (simp (ne-eqb (roots / 2 ^ l % 2) 0 d))) (found d))
     (same-or-not (roots / 2 ^ l % 2) 0)
   where
-    found : (roots / 2 ^ l % 2 ≡ 0 → ⊥) → RootFrom roots l l
+    found : (roots / 2 ^ l % 2 ≡ 0 → ⊥) → FirstFrom roots l l
     found d = record { least = omega arith; most = omega arith; none = λ k g b. absurd (omega arith); here = λ b. omega arith }
 
-    passed : (r : ℕ) → roots / 2 ^ l % 2 ≡ 0 → RootFrom roots (suc l) r → RootFrom roots l r
+    passed : (r : ℕ) → roots / 2 ^ l % 2 ≡ 0 → FirstFrom roots (suc l) r → FirstFrom roots l r
     passed r z a =
         record {
           least = omega (arith, a .least);
@@ -133,21 +31,13 @@ first-set (suc n) roots l e =
           here = a .here;
         }
 
--- there is one such place
-pub root-only : (roots from r t : ℕ) → RootFrom roots from r → RootFrom roots from t → r ≡ t
-root-only roots from r t a b =
-    ⊎-elim (λ (g : r ≤ t). ⊎-elim (λ (h : t ≤ r). omega arith) (λ (h : r < t). absurd (clash r t a b h)) (le-or-lt t r))
-    (λ (g : t < r). absurd (clash t r b a g)) (le-or-lt r t)
-  where
-    clash : (r t : ℕ) → RootFrom roots from r → RootFrom roots from t → r < t → ⊥
-    clash r t a b h =
-        let o : roots / 2 ^ r % 2 ≡ 1 = a .here (omega (arith, b .most)) in
-        let z : roots / 2 ^ r % 2 ≡ 0 = b .none r (a .least) h in
-        omega arith
-
-pub root-after : (roots l r : ℕ) → RootFrom roots (min (l + 1) 63) r → r ≡ rootAfter roots l
+pub root-after : (roots l r : ℕ) → FirstFrom roots (min (l + 1) 63) r → r ≡ rootAfter roots l
 unfolding rootAfter
-root-after roots l r a = root-only roots (min (l + 1) 63) r (rootAfter roots l) a (first-set (63 - min (l + 1) 63) roots (min (l + 1) 63) (omega arith))
+root-after roots l r a = one-first roots (min (l + 1) 63) r (rootAfter roots l) a (first-set (63 - min (l + 1) 63) roots (min (l + 1) 63) (omega arith))
+
+-- as the code asks for it
+pub root-next : (roots l r : ℕ) → l < 63 → FirstFrom roots ((l + 1) % 64) r → FirstFrom roots (l + 1) r
+root-next roots l r h a = subst (λ (m : ℕ). FirstFrom roots m r) (let e : (l + 1) % 64 ≡ l + 1 = omega arith in e) a
 
 pub root-last : (roots l j : ℕ) → rootAt roots l (suc j) ≡ rootAfter roots (rootAt roots l j)
 unfolding rootAt

@@ -10,4 +10,4 @@ returns c = search (share-is, needs)
 pub share-spec : {M : Type 1} → statement M
 share-spec =
     tie.close
-    (tie.spec (λ c. search needs) (λ c. search needs) (λ c. search needs) (λ c κs. search needs) (λ c κs. search needs) returns)
+    (tie.spec (λ c. search needs) (λ c. search needs) (λ c. search needs) (λ c κs. search needs) returns)

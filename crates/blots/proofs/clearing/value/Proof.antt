@@ -10,4 +10,4 @@ returns c = search (value-is, needs)
 pub value-spec : {M : Type 1} → statement M
 value-spec =
     tie.close
-    (tie.spec (λ c. search needs) (λ c. search needs) (λ c. search needs) (λ c κs. search needs) (λ c κs. search needs) returns)
+    (tie.spec (λ c. search needs) (λ c. search needs) (λ c. search needs) (λ c κs. search needs) returns)

@@ -23,7 +23,8 @@ use Rattle.code.proofs.Distances.{distance-weight, distance-added}
 use Rattle.code.proofs.Sums.{powerSum-added}
 use Rattle.mender.specs.declared.Mended.{Mended}
 use Rattle.mender.specs.Mender.{Fits, MendsTo, Mends, Word, Nearest, HasSums}
-use Rattle.mender.specs.Inside.{mixed, coef, valueOf, ValuedFrom, Agree, Nothing}
+use Rattle.mender.specs.Inside.{mixed, coef, valueOf, ValuedFrom, Nothing}
+use Rattle.mender.specs.Found.{SumsTo}
 use Rattle.mender.specs.Found.{Repaired}
 use Rattle.mender.proofs.Fitting.{Least, combines-more, value-is}
 
@@ -102,15 +103,12 @@ module _ (s : List ℕ) (c e n r : ℕ) (p : List ℕ) (out : Mended) (b : Told 
         let y = t .light in
         omega arith)
 
-    module _ (t : List ℕ) (sums : PowerSums w t) (f : Bool) (agrees : Tells (Agree s t c) f) where
+    module _ (f : Bool) (has : Tells (SumsTo s w c) f) where
       pub found-other : f ≡ false → Nothing out → MendsTo s c e out
       found-other q o =
           found-none s c e out o
           (λ u y.
-          agrees .fails q
-          (λ k i.
-          y .sums k i ∙ ap (powerSum (58 + k)) (sym (only-word s c e n r p b a w v u y))
-          ∙ sym (sums .sum-at k (let g = b .few in omega arith))))
+          has .fails q (λ k i. y .sums k i ∙ ap (powerSum (58 + k)) (sym (only-word s c e n r p b a w v u y))))
 
       pub found-word : (i j : ℕ) → Ends (replicate 63 0) w i j → m ≤ e → f ≡ true
           → MendsTo s c e (record { found = true; weight = m; first = i; last = j; word = w })
@@ -120,7 +118,7 @@ module _ (s : List ℕ) (c e n r : ℕ) (p : List ℕ) (out : Mended) (b : Told 
               long = v .long;
               characters = valued-characters p s w v;
               light = omega arith;
-              sums = λ k i. agrees .holds q k i ∙ sums .sum-at k (let g = b .few in omega arith);
+              sums = has .holds q;
             };
             weighs = λ _. weighs;
             ends = λ _. ends;

@@ -13,16 +13,15 @@ use Rattle.lanes.specs.Lanes.{lane}
 use Rattle.lanes.proofs.Laws.{lane-lt}
 use Rattle.sums.specs.declared.Sums.{Sums}
 use Rattle.sums.specs.Held.{eleven}
-use Rattle.code.specs.Inside.{PowerSums}
 use Rattle.code.specs.Word.{listed}
 use Rattle.code.proofs.Words.{listed-long, listed-get}
 use Rattle.sums.proofs.Holding.{eleven-first}
 use Rattle.mender.specs.declared.Mended.{Mended}
 use Rattle.mender.specs.declared.values.Pattern.{Pattern}
 use Rattle.mender.specs.Mender.{MendsTo}
-use Rattle.mender.specs.Inside.{mixed, coef, Agree, Nothing}
+use Rattle.mender.specs.Inside.{mixed, coef, Nothing}
 use Rattle.mender.specs.Rows.{SumsIn, RowsHold, RowsFrom, FirstRow, Coefficients}
-use Rattle.mender.specs.Found.{sixth}
+use Rattle.mender.specs.Found.{SumsTo, sixth}
 use Rattle.mender.specs.Values.{Patterned, Kills}
 use Rattle.mender.proofs.Fitting.{Least, some-row}
 use Rattle.mender.proofs.Finding.{Told, found-none, found-no-sixth, found-heavy, found-other, found-word}
@@ -67,16 +66,13 @@ module _ (h : Sums) (c e : ℕ) (x : List ℕ) (r : ℕ) (out : Mended) (b : (c 
       pub too-heavy : e < y .weight → Nothing out → MendsTo (eleven h) c e out
       too-heavy g n = found-heavy (eleven h) c e (min (c - c / 2) 5) r p out told least (y .word) (here .valued) (y .weight) (here .weighs) g n
 
-      module _ (t : List ℕ) (sums : PowerSums (y .word) t) (a : Bool) (agrees : Tells (Agree s t c) a) where
-        same : Tells (Agree (eleven h) t c) a
-        same = subst (λ (u : List ℕ). Tells (Agree u t c) a) es agrees
-
+      module _ (a : Bool) (has : Tells (SumsTo (eleven h) (y .word) c) a) where
         pub other-sums : a ≡ false → Nothing out → MendsTo (eleven h) c e out
-        other-sums q n = found-other (eleven h) c e (min (c - c / 2) 5) r p out told least (y .word) (here .valued) (y .weight) (here .weighs) t sums a same q n
+        other-sums q n = found-other (eleven h) c e (min (c - c / 2) 5) r p out told least (y .word) (here .valued) (y .weight) (here .weighs) a has q n
 
         pub this-word : y .weight ≤ e → a ≡ true → MendsTo (eleven h) c e (record { found = true; weight = y .weight; first = y .first; last = y .last; word = y .word })
         this-word g q =
-            found-word (eleven h) c e (min (c - c / 2) 5) r p out told least (y .word) (here .valued) (y .weight) (here .weighs) t sums a same (y .first) (y .last)
+            found-word (eleven h) c e (min (c - c / 2) 5) r p out told least (y .word) (here .valued) (y .weight) (here .weighs) a has (y .first) (y .last)
             (here .ends) g q
 
 -- the coefficients of the first row combine the windows to 0

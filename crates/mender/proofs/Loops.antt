@@ -13,8 +13,7 @@ use Rattle.refusal.proofs.Laws.{tells-yes, tells-no}
 use Rattle.field.specs.Field.{sum}
 use Rattle.code.specs.Word.{added}
 use Rattle.code.proofs.Words.{length-added, added-get}
-use Rattle.mender.specs.Found.{ElementsTo, ZeroTo}
-use Rattle.mender.specs.Inside.{Agree}
+use Rattle.mender.specs.Found.{ElementsTo}
 
 -- ---- whether the first c sums are elements
 
@@ -26,28 +25,6 @@ elements-all s c k h t = tells-yes (λ i l. t i (omega arith))
 
 pub elements-again : (s : List ℕ) (k : ℕ) → ElementsTo s k → getD s k 0 ≤ 63 → ElementsTo s (k + 1)
 elements-again s k t h = below-more (λ i. getD s i 0 < 64) k t (omega arith)
-
--- ---- whether they are all 0
-
-pub zero-over : (s : List ℕ) (c k : ℕ) → k < c → (getD s k 0 ≡ 0 → ⊥) → Tells (ZeroTo s c) false
-zero-over s c k h d = tells-no (λ t. d (t k h))
-
-pub zero-through : (s : List ℕ) (c k : ℕ) → c ≤ k → ZeroTo s k → Tells (ZeroTo s c) true
-zero-through s c k h t = tells-yes (λ i l. t i (omega arith))
-
-pub zero-again : (s : List ℕ) (k : ℕ) → ZeroTo s k → getD s k 0 ≡ 0 → ZeroTo s (k + 1)
-zero-again s k t e = below-more (λ i. getD s i 0 ≡ 0) k t e
-
--- ---- agreement
-
-pub agree-more : (s t : List ℕ) (n : ℕ) → getD s n 0 ≡ getD t n 0 → Agree s t n → Agree s t (n + 1)
-agree-more s t n e a = below-more (λ k. getD s k 0 ≡ getD t k 0) n a e
-
-pub agree-not : (s t : List ℕ) (c k : ℕ) → k < c → (getD s k 0 ≡ getD t k 0 → ⊥) → Tells (Agree s t c) false
-agree-not s t c k h d = tells-no (λ a. d (a k h))
-
-pub agree-all : (s t : List ℕ) (c k : ℕ) → k ≤ c → c ≤ k → Agree s t k → Tells (Agree s t c) true
-agree-all s t c k h l a = tells-yes (λ i b. a i (omega arith))
 
 -- ---- two lists added, of n entries
 

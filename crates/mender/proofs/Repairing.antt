@@ -3,12 +3,15 @@ use mathlib.Core.Path.{_≡_, refl, sym, ap, ap₂, _∙_, subst}
 use mathlib.Core.Bool.{Bool, true, false}
 use mathlib.Core.Logic.{⊎-elim}
 use mathlib.Core.List.{List}
-use Prim.Native.Nat.{ℕ, min, _+_, _*_, _/_, _%_, _<_, _≤_}
-use native.Mathlib.Nat.{le-trans, le-of-eq}
+use Prim.Native.Nat.{ℕ, min, _+_, _*_, _/_, _%_, _^_, _<_, _≤_}
+use native.Mathlib.Nat.{le-trans, le-of-eq, one-le-pow, one-mul}
 use native.Mathlib.Omega.{arith}
 use lib.ListN.{getD, length, replicate, set, length-set, List·getD-eq-default}
 use lib.Seq.{ext-getD, getD-set-same, getD-set-other}
 use lib.Bits.{bitXor}
+use lib.Dec.{eqb}
+use lib.Pow.{shl-exact}
+use borrow.Author.Tests.{eqb-true, eqb-false}
 use Rattle.numbers.proofs.Cases.{le-or-lt, same-or-not}
 use Rattle.refusal.specs.Promise.{Tells}
 use Rattle.refusal.proofs.Laws.{tells-yes, tells-no}
@@ -19,7 +22,7 @@ use Rattle.numbers.proofs.Totals.{total-same}
 use Rattle.lanes.specs.Lanes.{pack, lane}
 use Rattle.lanes.proofs.Laws.{lane-lt, lane-after, pack-same, pack-more, pack-last, pack-equal, pack-lanes, lane-pack}
 use Rattle.polynomial.specs.Sums.{weight}
-use Rattle.code.specs.Word.{Characters, added}
+use Rattle.code.specs.Word.{Characters, powerSum, added}
 use Rattle.code.specs.Inside.{PowerSums, Ends}
 use Rattle.sums.specs.declared.Sums.{Sums}
 use Rattle.sums.specs.Held.{eleven, lowered}
@@ -31,8 +34,10 @@ use Rattle.mender.specs.declared.Mended.{Mended}
 use Rattle.mender.specs.declared.Single.{Single}
 use Rattle.mender.specs.Mender.{Fits, MendsTo, Mends, Nearest, HasSums}
 use Rattle.mender.specs.Inside.{Nothing}
-use Rattle.mender.specs.Found.{lone, OneError, ElementsTo, ZeroTo, Clear, Repairs, Without, Corrects, sixth}
+use Rattle.mender.specs.Found.{lone, OneError, ElementsTo, ZeroTo, SumsTo, Clear, Repairs, Without, Corrects, sixth}
 use Rattle.mender.proofs.OneError.{lone-long, lone-here, lone-other, lone-weight, weight-nothing, sums-nothing}
+use Rattle.mender.proofs.rows.Loops.{pow-lane}
+use Rattle.mender.proofs.rows.Weaving.{pack-none}
 use Rattle.mender.proofs.Finding.{true-false, found-none, none-near, one-near, nearest-none, mended}
 
 -- ---- sums that are no elements are those of no word
@@ -89,6 +94,57 @@ last-not h d = tells-no (λ z. d (sym (eleven-last h) ∙ z .zero 10 (omega arit
 
 pub zero-all : (h : Sums) → h .first % 1152921504606846976 ≡ 0 → h .last % 64 ≡ 0 → Tells (Clear (eleven h)) true
 zero-all h f l = tells-yes (sums-zero h f l)
+
+-- ---- whether the first c sums are 0
+
+module _ (h : Sums) (c : ℕ) (few : c ≤ 11) where
+  pub zero-past : (b : Bool) → 10 < c → Tells (Clear (eleven h)) b → Tells (ZeroTo (eleven h) c) b
+  zero-past b l t =
+      let e : c ≡ 11 = omega arith in
+      record {
+        holds = λ q k g. t .holds q .zero k (omega arith);
+        fails = λ q z. t .fails q (record { zero = λ k g. z k (omega arith) });
+      }
+
+  module _ (l : c ≤ 10) where
+    lanes-low : h .first % 2 ^ (6 * c) ≡ pack c (lane (h .first))
+    lanes-low = ap (λ (m : ℕ). h .first % m) (pow-lane c) ∙ pack-lanes c (h .first)
+
+    none-set : (k : ℕ) → k < c → lane (h .first) k ≡ getD (eleven h) k 0
+    none-set k g = sym (eleven-first h k (omega arith))
+
+    low-zero : h .first % 2 ^ (6 * c) ≡ 0 → ZeroTo (eleven h) c
+    low-zero z k g =
+        sym (none-set k g)
+        ∙ pack-equal c (lane (h .first)) (λ k. 0) (lane-lt (h .first)) (λ k. omega arith) (sym lanes-low ∙ z ∙ sym (pack-none c (λ k. 0) (λ k b. refl))) k g
+
+    zero-low : ZeroTo (eleven h) c → h .first % 2 ^ (6 * c) ≡ 0
+    zero-low z = lanes-low ∙ pack-none c (lane (h .first)) (λ k g. none-set k g ∙ z k g)
+
+    width : (1 * 2 ^ (6 * c)) % 18446744073709551616 ≡ 2 ^ (6 * c)
+    width = shl-exact {a = 1} 1 (6 * c) 64 (omega arith) (omega arith) ∙ one-mul (2 ^ (6 * c))
+
+    pub width-pos : 0 < (1 * 2 ^ (6 * c)) % 18446744073709551616
+    width-pos = subst (λ (n : ℕ). 0 < n) (sym width) (one-le-pow (6 * c) 2 (omega arith))
+
+    pub zero-lanes : Tells (ZeroTo (eleven h) c) (eqb (h .first % ((1 * 2 ^ (6 * c)) % 18446744073709551616)) 0)
+    zero-lanes =
+        record {
+          holds = λ q. low-zero (ap (λ (m : ℕ). h .first % m) (sym width) ∙ eqb-true (h .first % ((1 * 2 ^ (6 * c)) % 18446744073709551616)) 0 q);
+          fails = λ q z. eqb-false (h .first % ((1 * 2 ^ (6 * c)) % 18446744073709551616)) 0 q (ap (λ (m : ℕ). h .first % m) width ∙ zero-low z);
+        }
+
+-- a word has sums where, its own added, they are 0
+pub has-them : (s w t d : List ℕ) (c : ℕ) (b : Bool) → c ≤ 11 → length s ≡ 11 → PowerSums w t → d ≡ added s t → Tells (ZeroTo d c) b → Tells (SumsTo s w c) b
+has-them s w t d c b few ls p ed z =
+    record {
+      holds = λ q k g. Laws.sum-eq (getD s k 0) (powerSum (58 + k) w) (sym (both k g) ∙ z .holds q k g);
+      fails = λ q h. z .fails q (λ k g. both k g ∙ ap (λ (v : ℕ). sum v (powerSum (58 + k) w)) (h k g) ∙ Laws.sum-self (powerSum (58 + k) w));
+    }
+  where
+    both : (k : ℕ) → k < c → getD d k 0 ≡ sum (getD s k 0) (powerSum (58 + k) w)
+    both k g =
+        ap (λ (u : List ℕ). getD u k 0) ed ∙ added-get s t (ls ∙ sym (p .long)) k ∙ ap (sum (getD s k 0)) (p .sum-at k (omega arith))
 
 nothing-fits : (s : List ℕ) (c e : ℕ) → ((k : ℕ) → k < c → getD s k 0 ≡ 0) → Fits s c e (replicate 63 0)
 nothing-fits s c e z =
@@ -252,14 +308,13 @@ mended-eleven s e x m q f = subst (λ (k : ℕ). MendsTo s 11 k m) q f
 
 -- ---- the first c of them
 
-module _ (h : Sums) (s : List ℕ) (c e x : ℕ) (b : Bool) (ex : x ≡ min c 11) (es : s ≡ eleven h) (t : Tells (ZeroTo s x) b) where
+module _ (h : Sums) (c e x : ℕ) (b : Bool) (ex : x ≡ min c 11) (t : Tells (ZeroTo (eleven h) x) b) where
   pub first-none : b ≡ true → Mends (eleven h) c e (record { found = true; weight = 0; first = 63; last = 63; word = replicate 63 0 })
   first-none q =
       mended (eleven h) c e x (min e (x / 2)) (record { found = true; weight = 0; first = 63; last = 63; word = replicate 63 0 }) ex refl
       (record {
         fits = λ _.
-            nothing-fits (eleven h) x (min e (x / 2))
-            (λ k l. ap (λ (u : List ℕ). getD u k 0) (sym es) ∙ t .holds q k l);
+            nothing-fits (eleven h) x (min e (x / 2)) (t .holds q);
         weighs = λ _. sym (weight-nothing 63);
         ends = λ _. ends-none;
         none = λ f. absurd (true-false f);

@@ -8,7 +8,7 @@ use Rattle.numbers.specs.Total.{total}
 use Rattle.field.specs.Field.{product}
 use Rattle.lanes.specs.Lanes.{lane}
 use Rattle.polynomial.specs.Sums.{weight}
-use Rattle.code.specs.Word.{added}
+use Rattle.code.specs.Word.{powerSum, added}
 use Rattle.code.specs.Inside.{Ends}
 use Rattle.mender.specs.declared.Mended.{Mended}
 use Rattle.mender.specs.declared.Single.{Single}
@@ -32,6 +32,10 @@ ElementsTo s c = (k : ℕ) → k < c → getD s k 0 < 64
 -- they are all 0
 abbrev pub ZeroTo : List ℕ → ℕ → Type 0
 ZeroTo s c = (k : ℕ) → k < c → getD s k 0 ≡ 0
+
+-- they are those of w
+abbrev pub SumsTo : List ℕ → List ℕ → ℕ → Type 0
+SumsTo s w c = (k : ℕ) → k < c → getD s k 0 ≡ powerSum (58 + k) w
 
 -- eleven sums that are all 0
 pub record Clear (s : List ℕ) : Type 0 where

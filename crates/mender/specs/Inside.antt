@@ -56,10 +56,6 @@ pub record ValuedFrom (p s w : List ℕ) (n : ℕ) : Type 0 where
   pub long : length w ≡ 63
   pub entry : (l : ℕ) → l < n → getD w (62 - l) 0 ≡ valueOf p s (power α l)
 
--- the first c sums agree
-abbrev pub Agree : List ℕ → List ℕ → ℕ → Type 0
-Agree s t c = (k : ℕ) → k < c → getD s k 0 ≡ getD t k 0
-
 -- no word was found
 pub record Nothing (m : Mended) : Type 0 where
   pub not-found : m .found ≡ false

@@ -7,8 +7,8 @@ ghost use Rattle.refusal.specs.Promise.{Tells};
 ghost use Rattle.code.specs.Word.{added};
 ghost use Rattle.sums.specs.Held.{eleven};
 ghost use Rattle.mender.specs.Mender.{MendsTo, Mends, NearestWith, NearestClean};
-ghost use Rattle.mender.specs.Found.{lone, OneError, ElementsTo, ZeroTo, Clear, Repairs, Without, Corrects, sixth};
-ghost use Rattle.mender.specs.Inside.{Agree, Nothing};
+ghost use Rattle.mender.specs.Found.{lone, OneError, ElementsTo, ZeroTo, SumsTo, Clear, Repairs, Without, Corrects, sixth};
+ghost use Rattle.mender.specs.Inside.{Nothing};
 use lanes::FIVE_LANES;
 use lanes::NINE_LANES;
 use lanes::SIX_LANES;
@@ -62,7 +62,7 @@ pub fn mend_first(sums: Sums, c: usize, e: usize) -> Mended
     ensures { λ r. ⌜ Mends (eleven sums) c e r ⌝ }
 {
     let most = least(c, 11);
-    if zero_to(sums::unpacked(sums), most) {
+    if zero_first(sums, most) {
         return Mended {
             found: true,
             weight: 0,
@@ -159,6 +159,25 @@ pub fn all_zero(sums: Sums) -> bool
     true
 }
 
+// Whether a word has the first c of these sums.
+fn has_sums(word: [u8; 63], sums: Sums, c: usize) -> bool
+    requires { ⌜ c ≤ 11 ⌝ }
+    ensures { λ r. ⌜ Tells (SumsTo (eleven sums) word c) r ⌝ }
+{
+    zero_first(sums::eleven_added(sums, sums::eleven_sums(&word)), c)
+}
+
+// Whether the first c of eleven sums are all 0.
+fn zero_first(sums: Sums, c: usize) -> bool
+    requires { ⌜ c ≤ 11 ⌝ }
+    ensures { λ r. ⌜ Tells (ZeroTo (eleven sums) c) r ⌝ }
+{
+    if c > 10 {
+        return all_zero(sums);
+    }
+    sums.first % (1 << (6 * c)) == 0
+}
+
 // A word with a value added at one address.
 fn changed(word: &[u8], address: usize, value: u8) -> [u8; 63]
     requires { ⌜ length (now word) ≡ 63 ⌝ }
@@ -178,21 +197,6 @@ fn elements_to(sums: [u8; 11], c: usize) -> bool
     let mut k: usize = 0;
     while k < c {
         if sums[k] > 63 {
-            return false;
-        }
-        k += 1;
-    }
-    true
-}
-
-// Whether the first c sums are all 0.
-fn zero_to(sums: [u8; 11], c: usize) -> bool
-    requires { ⌜ c ≤ 11 ⌝ }
-    ensures { λ r. ⌜ Tells (ZeroTo sums c) r ⌝ }
-{
-    let mut k: usize = 0;
-    while k < c {
-        if sums[k] != 0 {
             return false;
         }
         k += 1;
@@ -252,8 +256,7 @@ fn find(s: Sums, c: usize, e: usize) -> Mended
         return nothing();
     }
     let w = pattern.word;
-    let t = sums::power_sums(&w);
-    if !agree(sums, t, c) {
+    if !has_sums(w, s, c) {
         return nothing();
     }
     Mended {
@@ -272,21 +275,6 @@ fn sixth_window(x: u64, s: Sums) -> bool
     let window = s.first / FIVE_LANES % FIVE_LANES + (s.last % 64) as u64 * FIVE_LANES;
     if lanes::sum_of(lanes::products(x / FIVE_LANES, window)) != 0 {
         return false;
-    }
-    true
-}
-
-// Whether the first c sums agree.
-fn agree(s: [u8; 11], t: [u8; 11], c: usize) -> bool
-    requires { ⌜ c ≤ 11 ⌝ }
-    ensures { λ r. ⌜ Tells (Agree s t c) r ⌝ }
-{
-    let mut k: usize = 0;
-    while k < c {
-        if s[k] != t[k] {
-            return false;
-        }
-        k += 1;
     }
     true
 }

@@ -33,25 +33,25 @@ sums-in h =
       sum-at = λ k l. sym (mod-eq-of-lt (lane-lt (h .first) k)) ∙ ap (λ (n : ℕ). n % 64) (sym (eleven-first h k l));
     }
 
-module _ (h : Sums) (c e : ℕ) (x : List ℕ) (r : ℕ) (out : Mended) (b : (c ≤ 11) × (e ≤ c / 2)) (rows : RowsFrom (h .first) e (min (c - c / 2) 5) (min (c - c / 2) 5) x) (f : FirstRow x r) where
+module _ (h : Sums) (c e : ℕ) (x : List ℕ) (r : ℕ) (out : Mended) (b : (c ≤ 11) × (e ≤ c / 2)) (rows : RowsFrom (h .first) e (min (c - c / 2) 5) x) (f : FirstRow x r) where
   told : Told c e (min (c - c / 2) 5)
   told =
       let g = b .0 in
       let k = b .1 in
       record { few = g; most = omega arith; enough = omega arith; among = omega arith }
 
-  held : RowsHold (eleven h) e (min (c - c / 2) 5) (min (c - c / 2) 5) x
+  held : RowsHold (eleven h) e (min (c - c / 2) 5) x
   held = rows .hold (eleven h) (sums-in h)
 
   pub no-row : 6 ≤ r → Nothing out → MendsTo (eleven h) c e out
   no-row l n =
       let none : FirstRow x 6 = subst (FirstRow x) (let m = f .small in omega arith) f in
       found-none (eleven h) c e out n
-      (λ w t. some-row (eleven h) c e (min (c - c / 2) 5) w (told .enough) (told .among) (told .most) t (held .rows) (held .spanned) (rows-none (eleven h) e (min (c - c / 2) 5) (min (c - c / 2) 5) (omega arith) x held none))
+      (λ w t. some-row (eleven h) c e (min (c - c / 2) 5) w (told .enough) (told .among) (told .most) t (held .rows) (held .spanned) (rows-none (eleven h) e (min (c - c / 2) 5) x held none))
 
   module _ (l : r < 6) (p : List ℕ) (k : Coefficients (getD x r 0) p) where
     least : Least (eleven h) e (min (c - c / 2) 5) r p
-    least = rows-first (eleven h) e (min (c - c / 2) 5) (min (c - c / 2) 5) (omega arith) x held r p l f k
+    least = rows-first (eleven h) e (min (c - c / 2) 5) x held r p l f k
 
     sixth-mixed : mixed (coef p) (eleven h) 5 ≡ sixth (getD x r 0) (eleven h)
     unfolding mixed sixth
@@ -76,17 +76,17 @@ module _ (h : Sums) (c e : ℕ) (x : List ℕ) (r : ℕ) (out : Mended) (b : (c 
             (here .ends) g q
 
 -- the coefficients of the first row combine the windows to 0
-pub locator-kills : (h : Sums) (c e : ℕ) (x : List ℕ) (r : ℕ) (p s : List ℕ) (n : ℕ) → RowsFrom (h .first) e (min (c - c / 2) 5) (min (c - c / 2) 5) x → FirstRow x r → r < 6
+pub locator-kills : (h : Sums) (c e : ℕ) (x : List ℕ) (r : ℕ) (p s : List ℕ) (n : ℕ) → RowsFrom (h .first) e (min (c - c / 2) 5) x → FirstRow x r → r < 6
     → Coefficients (getD x r 0) p → s ≡ eleven h → n ≡ min (c - c / 2) 5 → Kills p s n
 locator-kills h c e x r p s n rows f l k es en =
-    let a : Least (eleven h) e (min (c - c / 2) 5) r p = rows-first (eleven h) e (min (c - c / 2) 5) (min (c - c / 2) 5) (omega arith) x (rows .hold (eleven h) (sums-in h)) r p l f k in
+    let a : Least (eleven h) e (min (c - c / 2) 5) r p = rows-first (eleven h) e (min (c - c / 2) 5) x (rows .hold (eleven h) (sums-in h)) r p l f k in
     record {
       few = omega arith;
       window = λ j g. ap (λ (t : List ℕ). mixed (coef p) t j) es ∙ a .kernel j (omega arith);
     }
 
 -- the row fails the sixth window
-pub not-sixth : (h : Sums) (c e : ℕ) (x : List ℕ) (r : ℕ) (out : Mended) (a : Bool) → (c ≤ 11) × (e ≤ c / 2) → RowsFrom (h .first) e (min (c - c / 2) 5) (min (c - c / 2) 5) x → FirstRow x r
+pub not-sixth : (h : Sums) (c e : ℕ) (x : List ℕ) (r : ℕ) (out : Mended) (a : Bool) → (c ≤ 11) × (e ≤ c / 2) → RowsFrom (h .first) e (min (c - c / 2) 5) x → FirstRow x r
     → r < 6 → c ≡ 11 → Tells (sixth (getD x r 0) (eleven h) ≡ 0) a → a ≡ false → Nothing out → MendsTo (eleven h) c e out
 not-sixth h c e x r out a b rows f l q t z n =
     let p : List ℕ = listed (λ k. lane (getD x r 0) (5 + k)) 0 6 in

@@ -4,12 +4,13 @@ use mathlib.Core.Bool.{Bool, true, false}
 use mathlib.Core.Logic.{⊎-elim}
 use mathlib.Core.List.{List}
 use Prim.Native.Nat.{ℕ, min, _+_, _*_, _/_, _%_, _^_, _<_, _≤_}
-use native.Mathlib.Nat.{le-trans, le-of-eq}
+use native.Mathlib.Nat.{le-trans, le-of-eq, one-le-pow, one-mul}
 use native.Mathlib.Omega.{arith}
 use lib.ListN.{getD, length, replicate, set, length-set, List·getD-eq-default}
 use lib.Seq.{ext-getD, getD-set-same, getD-set-other}
 use lib.Bits.{bitXor}
 use lib.Dec.{eqb}
+use lib.Pow.{shl-exact}
 use borrow.Author.Tests.{eqb-true, eqb-false}
 use Rattle.numbers.proofs.Cases.{le-or-lt, same-or-not}
 use Rattle.refusal.specs.Promise.{Tells}
@@ -35,6 +36,7 @@ use Rattle.mender.specs.Mender.{Fits, MendsTo, Mends, Nearest, HasSums}
 use Rattle.mender.specs.Inside.{Nothing}
 use Rattle.mender.specs.Found.{lone, OneError, ElementsTo, ZeroTo, SumsTo, Clear, Repairs, Without, Corrects, sixth}
 use Rattle.mender.proofs.OneError.{lone-long, lone-here, lone-other, lone-weight, weight-nothing, sums-nothing}
+use Rattle.mender.proofs.rows.Loops.{pow-lane}
 use Rattle.mender.proofs.rows.Weaving.{pack-none}
 use Rattle.mender.proofs.Finding.{true-false, found-none, none-near, one-near, nearest-none, mended}
 
@@ -104,20 +106,32 @@ module _ (h : Sums) (c : ℕ) (few : c ≤ 11) where
         fails = λ q z. t .fails q (record { zero = λ k g. z k (omega arith) });
       }
 
-  module _ (l : c ≤ 10) (y : ℕ) (ey : y ≡ 64 ^ c) where
-    lanes-low : h .first % y ≡ pack c (lane (h .first))
-    lanes-low = ap (λ (m : ℕ). h .first % m) ey ∙ pack-lanes c (h .first)
+  module _ (l : c ≤ 10) where
+    lanes-low : h .first % 2 ^ (6 * c) ≡ pack c (lane (h .first))
+    lanes-low = ap (λ (m : ℕ). h .first % m) (pow-lane c) ∙ pack-lanes c (h .first)
 
     none-set : (k : ℕ) → k < c → lane (h .first) k ≡ getD (eleven h) k 0
     none-set k g = sym (eleven-first h k (omega arith))
 
-    pub zero-lanes : Tells (ZeroTo (eleven h) c) (eqb (h .first % y) 0)
+    low-zero : h .first % 2 ^ (6 * c) ≡ 0 → ZeroTo (eleven h) c
+    low-zero z k g =
+        sym (none-set k g)
+        ∙ pack-equal c (lane (h .first)) (λ k. 0) (lane-lt (h .first)) (λ k. omega arith) (sym lanes-low ∙ z ∙ sym (pack-none c (λ k. 0) (λ k b. refl))) k g
+
+    zero-low : ZeroTo (eleven h) c → h .first % 2 ^ (6 * c) ≡ 0
+    zero-low z = lanes-low ∙ pack-none c (lane (h .first)) (λ k g. none-set k g ∙ z k g)
+
+    width : (1 * 2 ^ (6 * c)) % 18446744073709551616 ≡ 2 ^ (6 * c)
+    width = shl-exact {a = 1} 1 (6 * c) 64 (omega arith) (omega arith) ∙ one-mul (2 ^ (6 * c))
+
+    pub width-pos : 0 < (1 * 2 ^ (6 * c)) % 18446744073709551616
+    width-pos = subst (λ (n : ℕ). 0 < n) (sym width) (one-le-pow (6 * c) 2 (omega arith))
+
+    pub zero-lanes : Tells (ZeroTo (eleven h) c) (eqb (h .first % ((1 * 2 ^ (6 * c)) % 18446744073709551616)) 0)
     zero-lanes =
         record {
-          holds = λ q k g.
-              sym (none-set k g)
-              ∙ pack-equal c (lane (h .first)) (λ k. 0) (lane-lt (h .first)) (λ k. omega arith) (sym lanes-low ∙ eqb-true (h .first % y) 0 q ∙ sym (pack-none c (λ k. 0) (λ k b. refl))) k g;
-          fails = λ q z. eqb-false (h .first % y) 0 q (lanes-low ∙ pack-none c (lane (h .first)) (λ k g. none-set k g ∙ z k g));
+          holds = λ q. low-zero (ap (λ (m : ℕ). h .first % m) (sym width) ∙ eqb-true (h .first % ((1 * 2 ^ (6 * c)) % 18446744073709551616)) 0 q);
+          fails = λ q z. eqb-false (h .first % ((1 * 2 ^ (6 * c)) % 18446744073709551616)) 0 q (ap (λ (m : ℕ). h .first % m) width ∙ zero-low z);
         }
 
 -- a word has sums where, its own added, they are 0

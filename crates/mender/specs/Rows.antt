@@ -11,17 +11,17 @@ use Rattle.field.specs.Inside.{inverse}
 use Rattle.lanes.specs.Lanes.{pack, lane}
 use Rattle.mender.specs.Inside.{mixed, at, Spanned}
 
--- lane t of the row of q: what it combines window t to, for w windows of five, 0 for each other, and after five lanes its coefficients
-unfoldable pub woven : ℕ → List ℕ → (ℕ → ℕ) → ℕ → ℕ
-woven w s q t = cond (ltb t 5) (cond (ltb t w) (mixed q s t) 0) (q (t - 5))
+-- lane t of the row of q: what it combines window t to, for five windows, and after them its coefficients
+unfoldable pub woven : List ℕ → (ℕ → ℕ) → ℕ → ℕ
+woven s q t = cond (ltb t 5) (mixed q s t) (q (t - 5))
 
 -- the low six bits of the first ten sums are the lanes of q
 pub record SumsIn (q : ℕ) (s : List ℕ) : Type 0 where
   pub sum-at : (k : ℕ) → k < 10 → lane q k ≡ getD s k 0 % 64
 
--- the first n rows are those of the unit vectors, with w windows
-pub record UnitRows (q w n : ℕ) (x : List ℕ) : Type 0 where
-  pub row : (i : ℕ) → i < n → getD x i 0 ≡ q / 64 ^ i % 64 ^ w + 64 ^ i * 64 ^ 5
+-- the first n rows are those of the unit vectors
+pub record UnitRows (q n : ℕ) (x : List ℕ) : Type 0 where
+  pub row : (i : ℕ) → i < n → getD x i 0 ≡ q / 64 ^ i % 64 ^ 5 + 64 ^ i * 64 ^ 5
   pub none : (i : ℕ) → n ≤ i → getD x i 0 ≡ 0
 
 -- the first row that window j does not combine to 0, or 6
@@ -44,15 +44,15 @@ pub record RowsCleared (x : List ℕ) (j p : ℕ) (r : List ℕ) : Type 0 where
   pub here : getD r p 0 ≡ 0
   pub after : (i : ℕ) → p < i → i < 6 → getD r i 0 ≡ bitXor (getD x i 0) (pack 10 (λ k. product (lane (getD x p 0) k) (factor x j p i)))
 
--- the rows after n of w windows of s
-pub record RowsHold (s : List ℕ) (e w n : ℕ) (x : List ℕ) : Type 0 where
+-- the rows after n windows of s
+pub record RowsHold (s : List ℕ) (e n : ℕ) (x : List ℕ) : Type 0 where
   pub rows : List (List ℕ)
   pub spanned : Spanned s e n rows
-  pub word : (i : ℕ) → i < 6 → getD x i 0 ≡ pack 11 (woven w s (at rows i))
+  pub word : (i : ℕ) → i < 6 → getD x i 0 ≡ pack 11 (woven s (at rows i))
 
 -- the same, of any sums that the lanes of q are
-pub record RowsFrom (q e w n : ℕ) (x : List ℕ) : Type 0 where
-  pub hold : (s : List ℕ) → SumsIn q s → RowsHold s e w n x
+pub record RowsFrom (q e n : ℕ) (x : List ℕ) : Type 0 where
+  pub hold : (s : List ℕ) → SumsIn q s → RowsHold s e n x
 
 -- the first row that is not 0, or 6
 pub record FirstRow (x : List ℕ) (r : ℕ) : Type 0 where

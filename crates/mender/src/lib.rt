@@ -175,7 +175,7 @@ fn zero_first(sums: Sums, c: usize) -> bool
     if c > 10 {
         return all_zero(sums);
     }
-    sums.first % rows::width(c) == 0
+    sums.first % (1 << (6 * c)) == 0
 }
 
 // A word with a value added at one address.

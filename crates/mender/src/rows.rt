@@ -10,16 +10,15 @@ use lanes::FIVE_LANES;
 use lanes::FOUR_LANES;
 use lanes::TEN_LANES;
 
-// The polynomials of degree at most e that combine n windows of the sums to 0, five windows at most, packed. A window after these has 0 in each row, so
-// no row goes for it.
+// The polynomials of degree at most e that combine n windows of the sums to 0, five windows at most, packed.
 pub fn spanned_rows(sums: u64, e: usize, n: usize) -> [u64; 6]
     requires { ⌜ e ≤ 5 ⌝ }
-    ensures { λ r. ⌜ RowsFrom sums e (min n 5) (min n 5) r ⌝ }
+    ensures { λ r. ⌜ RowsFrom sums e (min n 5) r ⌝ }
 {
     let most = least(n, 5);
-    let mut x = unit_rows(sums, e, most);
+    let mut x = unit_rows(sums, e);
     let mut j: usize = 0;
-    while j < 5 {
+    while j < most {
         let p = pivot_row(x, j);
         if p < 6 {
             let t = row_cleared(x, j, p);
@@ -30,31 +29,22 @@ pub fn spanned_rows(sums: u64, e: usize, n: usize) -> [u64; 6]
     x
 }
 
-// The rows of degree 0 to e before any window, and rows of 0: w of the sums from the row's degree on, and 1 at that degree.
-fn unit_rows(sums: u64, e: usize, w: usize) -> [u64; 6]
-    requires { ⌜ (e ≤ 5) × (w ≤ 5) ⌝ }
-    ensures { λ r. ⌜ UnitRows sums w (suc e) r ⌝ }
+// The rows of degree 0 to e before any window, and rows of 0: the sums from the row's degree on, and 1 at that degree.
+fn unit_rows(sums: u64, e: usize) -> [u64; 6]
+    requires { ⌜ e ≤ 5 ⌝ }
+    ensures { λ r. ⌜ UnitRows sums (suc e) r ⌝ }
 {
-    let y = width(w);
     let mut x = [0u64; 6];
     let mut q = sums;
     let mut one: u64 = FOUR_LANES;
     let mut i: usize = 0;
     while i <= e {
         one = one * 64;
-        x[i] = q % y + one;
+        x[i] = q % FIVE_LANES + one;
         q = q / 64;
         i += 1;
     }
     x
-}
-
-// The least number that n lanes do not hold.
-pub fn width(n: usize) -> u64
-    requires { ⌜ n ≤ 10 ⌝ }
-    ensures { λ r. ⌜ r ≡ 64 ^ n ⌝ }
-{
-    1 << (6 * n)
 }
 
 // The first row that window j does not combine to 0, or 6.

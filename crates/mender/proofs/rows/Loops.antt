@@ -2,13 +2,12 @@
 use mathlib.Core.Path.{_≡_, refl, sym, ap, ap₂, _∙_, subst}
 use mathlib.Core.List.{List, [], _∷_}
 use Prim.Native.Nat.{ℕ, zero, suc, _+_, _*_, _/_, _%_, _^_, _<_, _≤_}
-use native.Mathlib.Nat.{le-of-eq, div-div-eq-div-mul, div-one, pow-suc, pow-le-pow-right, zero-add, one-le-pow, one-mul as one-times, mod-lt}
+use native.Mathlib.Nat.{le-of-eq, div-div-eq-div-mul, div-one, pow-suc, pow-le-pow-right, zero-add}
 use native.Mathlib.Numerals.{add-one}
 use native.Mathlib.Omega.{arith}
 use borrow.Author.Count.{below-more}
 use lib.Dec.{eqb, eqb→eq}
 use lib.Bits.{bitXor}
-use lib.Pow.{shl-exact}
 use lib.ListN.{getD, length, set, length-set, replicate}
 use lib.Seq.{getD-set-same, getD-set-other}
 use Rattle.numbers.proofs.Cases.{pos-of-not-zero, not-zero-of-pos}
@@ -48,47 +47,36 @@ pub lane-shift : (x j : ℕ) → x / 2 ^ (6 * j) % 64 ≡ lane x j
 unfolding lane
 lane-shift x j = ap (λ (m : ℕ). x / m % 64) (pow-lane j)
 
--- ---- width
-
-pub width-is : (n : ℕ) → n ≤ 10 → (1 * 2 ^ (6 * n)) % 18446744073709551616 ≡ 64 ^ n
-width-is n h = shl-exact {a = 1} 1 (6 * n) 64 (omega arith) (omega arith) ∙ one-times (2 ^ (6 * n)) ∙ pow-lane n
-
-pub width-pos : (n y : ℕ) → y ≡ 64 ^ n → 0 < y
-width-pos n y e = subst (λ (m : ℕ). 0 < m) (sym e) (one-le-pow n 64 (omega arith))
-
 -- ---- unit_rows
 
 -- i rows are set; q has the sums from i on, and one is below the 1 of row i
-pub record UnitRowsTo (sums w : ℕ) (x : List ℕ) (q one i : ℕ) : Type 0 where
+pub record UnitRowsTo (sums : ℕ) (x : List ℕ) (q one i : ℕ) : Type 0 where
   pub long : length x ≡ 6
   pub after : q ≡ sums / 64 ^ i
   pub next : one ≡ 64 ^ i * 16777216
-  pub units : UnitRows sums w i x
+  pub units : UnitRows sums i x
 
-pub unit-rows-none : (sums w : ℕ) → UnitRowsTo sums w (replicate 6 0) sums 16777216 0
-unit-rows-none sums w =
+pub unit-rows-none : (sums : ℕ) → UnitRowsTo sums (replicate 6 0) sums 16777216 0
+unit-rows-none sums =
     record { long = refl; after = sym (div-one sums); next = refl; units = record { row = λ i l. absurd (omega arith); none = λ i l. zero-get 6 i } }
 
 -- one fits, and so does a row
-one-fits : (sums w : ℕ) (x : List ℕ) (q one i e : ℕ) → e ≤ 5 → i ≤ e → UnitRowsTo sums w x q one i → one ≤ 18014398509481984
-one-fits sums w x q one i e h l a =
+one-fits : (sums : ℕ) (x : List ℕ) (q one i e : ℕ) → e ≤ 5 → i ≤ e → UnitRowsTo sums x q one i → one ≤ 18014398509481984
+one-fits sums x q one i e h l a =
     let c : 64 ^ i ≤ 64 ^ 5 = pow-le-pow-right {n = 64} (omega arith) {i = i} {j = 5} (omega arith) in
     let d = a .next in
     omega arith
 
-pub one-mul : (sums w : ℕ) (x : List ℕ) (q one i e : ℕ) → e ≤ 5 → i ≤ e → UnitRowsTo sums w x q one i → one * 64 < 18446744073709551616
-one-mul sums w x q one i e h l a = omega (arith, one-fits sums w x q one i e h l a)
+pub one-mul : (sums : ℕ) (x : List ℕ) (q one i e : ℕ) → e ≤ 5 → i ≤ e → UnitRowsTo sums x q one i → one * 64 < 18446744073709551616
+one-mul sums x q one i e h l a = omega (arith, one-fits sums x q one i e h l a)
 
-pub one-add : (sums w y : ℕ) (x : List ℕ) (q one i e : ℕ) → e ≤ 5 → w ≤ 5 → i ≤ e → y ≡ 64 ^ w → UnitRowsTo sums w x q one i → q % y + one * 64 < 18446744073709551616
-one-add sums w y x q one i e h f l ey a =
-    let c : 64 ^ w ≤ 64 ^ 5 = pow-le-pow-right {n = 64} (omega arith) {i = w} {j = 5} f in
-    let d : q % y < y = mod-lt q (width-pos w y ey) in
-    omega (arith, one-fits sums w x q one i e h l a)
+pub one-add : (sums : ℕ) (x : List ℕ) (q one i e : ℕ) → e ≤ 5 → i ≤ e → UnitRowsTo sums x q one i → q % 1073741824 + one * 64 < 18446744073709551616
+one-add sums x q one i e h l a = omega (arith, one-fits sums x q one i e h l a)
 
-pub unit-rows-again : (sums w y : ℕ) (x : List ℕ) (q one i e : ℕ) → e ≤ 5 → i ≤ e → y ≡ 64 ^ w → UnitRowsTo sums w x q one i
-    → UnitRowsTo sums w (set x i (q % y + one * 64)) (q / 64) (one * 64) (i + 1)
-unit-rows-again sums w y x q one i e h l ey a =
-    let v : ℕ = q % y + one * 64 in
+pub unit-rows-again : (sums : ℕ) (x : List ℕ) (q one i e : ℕ) → e ≤ 5 → i ≤ e → UnitRowsTo sums x q one i
+    → UnitRowsTo sums (set x i (q % 1073741824 + one * 64)) (q / 64) (one * 64) (i + 1)
+unit-rows-again sums x q one i e h l a =
+    let v : ℕ = q % 1073741824 + one * 64 in
     record {
       long = length-set x i v ∙ a .long;
       after =
@@ -97,17 +85,16 @@ unit-rows-again sums w y x q one i e h l ey a =
       next = (let d = a .next in let p : 64 ^ suc i ≡ 64 ^ i * 64 = pow-suc 64 i in omega arith) ∙ ap (λ (n : ℕ). 64 ^ n * 16777216) (sym (add-one i));
       units = record {
         row =
-            below-more (λ k. getD (set x i v) k 0 ≡ sums / 64 ^ k % 64 ^ w + 64 ^ k * 64 ^ 5) i
+            below-more (λ k. getD (set x i v) k 0 ≡ sums / 64 ^ k % 64 ^ 5 + 64 ^ k * 64 ^ 5) i
             (λ k b. getD-set-other x i k v 0 (λ r. omega arith) ∙ a .units .row k b)
             (getD-set-same x i v 0 (omega (arith, a .long))
-            ∙ ap₂ (λ (m z : ℕ). q % m + z) ey (let d = a .next in let r : one * 64 ≡ 64 ^ i * 64 ^ 5 = omega arith in r)
-            ∙ ap (λ (m : ℕ). m % 64 ^ w + 64 ^ i * 64 ^ 5) (a .after));
+            ∙ ap₂ (λ (y z : ℕ). y % 1073741824 + z) (a .after) (let d = a .next in omega arith));
         none = λ k b. getD-set-other x i k v 0 (λ r. omega arith) ∙ a .units .none k (omega arith);
       };
     }
 
-pub unit-rows-all : (sums w : ℕ) (x : List ℕ) (q one i e : ℕ) → i ≤ suc e → e < i → UnitRowsTo sums w x q one i → UnitRows sums w (suc e) x
-unit-rows-all sums w x q one i e h l a = subst (λ (n : ℕ). UnitRows sums w n x) (same i e h l) (a .units)
+pub unit-rows-all : (sums : ℕ) (x : List ℕ) (q one i e : ℕ) → i ≤ suc e → e < i → UnitRowsTo sums x q one i → UnitRows sums (suc e) x
+unit-rows-all sums x q one i e h l a = subst (λ (n : ℕ). UnitRows sums n x) (same i e h l) (a .units)
   where
     same : (i e : ℕ) → i ≤ suc e → e < i → i ≡ suc e
     same i e h l = omega arith

@@ -3,15 +3,13 @@ use mathlib.Core.Path.{_≡_, refl, sym, ap, ap₂, _∙_, subst}
 use mathlib.Core.Logic.{⊎-elim}
 use mathlib.Core.List.{List, [], _∷_}
 use Prim.Native.Nat.{ℕ, zero, suc, _+_, _-_, _*_, _%_, _^_, _<_, _≤_}
-use native.Mathlib.Nat.{pow-suc, zero-div, add-zero, add-suc}
+use native.Mathlib.Nat.{pow-suc, zero-div}
 use native.Mathlib.Omega.{arith}
 use borrow.Author.Tests.{lt-ltb, le-ltb}
 use lib.ListN.{getD, length, List·getD-eq-default}
 use Rattle.numbers.proofs.Cases.{le-or-lt}
 use Rattle.field.specs.Field.{sum, product}
-use Rattle.field.proofs.Laws
 use Rattle.lanes.specs.Lanes.{pack, lane}
-use Rattle.lanes.proofs.Laws.{pack-more}
 use Rattle.mender.specs.Rows.{woven}
 use Rattle.mender.specs.Inside.{mixed, at}
 use Rattle.mender.proofs.rows.Windows.{past, mixed-lt, mixed-none, mixed-added}
@@ -49,50 +47,35 @@ pub lane-none : (t : ℕ) → lane 0 t ≡ 0
 unfolding lane
 lane-none t = ap (λ (n : ℕ). n % 64) (zero-div (64 ^ t))
 
--- lanes that are 0 past n
-pub pack-pad : (n d : ℕ) (f : ℕ → ℕ) → ((k : ℕ) → n ≤ k → k < n + d → f k ≡ 0) → pack (n + d) f ≡ pack n f
-pack-pad n zero f z = ap (λ (m : ℕ). pack m f) (add-zero n)
-pack-pad n (suc d) f z = ap (λ (m : ℕ). pack m f) (add-suc n d) ∙ pack-more (n + d) f (z (n + d) (omega arith) (omega arith)) ∙ pack-pad n d f (λ k l g. z k l (omega arith))
-
 -- ---- a row
 
-module _ (w : ℕ) (few : w ≤ 5) (s : List ℕ) where
-  pub woven-window : (q : ℕ → ℕ) (t : ℕ) → t < w → woven w s q t ≡ mixed q s t
-  unfolding woven
-  woven-window q t h = simp (lt-ltb t 5 (omega arith), lt-ltb t w h)
+pub woven-window : (s : List ℕ) (q : ℕ → ℕ) (t : ℕ) → t < 5 → woven s q t ≡ mixed q s t
+unfolding woven
+woven-window s q t h = simp (lt-ltb t 5 h)
 
-  pub woven-past : (q : ℕ → ℕ) (t : ℕ) → w ≤ t → t < 5 → woven w s q t ≡ 0
-  unfolding woven
-  woven-past q t h l = simp (lt-ltb t 5 l, le-ltb t w h)
+pub woven-coef : (s : List ℕ) (q : ℕ → ℕ) (k : ℕ) → woven s q (5 + k) ≡ q k
+unfolding woven
+woven-coef s q k = simp (le-ltb (5 + k) 5 (omega arith)) (ap q (omega arith))
 
-  pub woven-coef : (q : ℕ → ℕ) (k : ℕ) → woven w s q (5 + k) ≡ q k
-  unfolding woven
-  woven-coef q k = simp (le-ltb (5 + k) 5 (omega arith)) (ap q (omega arith))
+-- a fact of each lane, from each window's and each coefficient's
+by-lane : (P : ℕ → Type 0) → ((t : ℕ) → t < 5 → P t) → ((k : ℕ) → P (5 + k)) → (t : ℕ) → P t
+by-lane P w c t = ⊎-elim (λ (h : 5 ≤ t). subst P (omega arith) (c (t - 5))) (λ (h : t < 5). w t h) (le-or-lt 5 t)
 
-  -- a fact of each lane, from each window's, each lane's between, and each coefficient's
-  by-lane : (P : ℕ → Type 0) → ((t : ℕ) → t < w → P t) → ((t : ℕ) → w ≤ t → t < 5 → P t) → ((k : ℕ) → P (5 + k)) → (t : ℕ) → P t
-  by-lane P f z c t =
-      ⊎-elim (λ (h : 5 ≤ t). subst P (omega arith) (c (t - 5))) (λ (h : t < 5). ⊎-elim (λ (g : w ≤ t). z t g h) (λ (g : t < w). f t g) (le-or-lt w t)) (le-or-lt 5 t)
+pub woven-lt : (s : List ℕ) (q : ℕ → ℕ) → ((k : ℕ) → q k < 64) → (t : ℕ) → woven s q t < 64
+woven-lt s q h =
+    by-lane (λ t. woven s q t < 64) (λ t l. subst (λ (n : ℕ). n < 64) (sym (woven-window s q t l)) (mixed-lt q s t))
+    (λ k. subst (λ (n : ℕ). n < 64) (sym (woven-coef s q k)) (h k))
 
-  pub woven-lt : (q : ℕ → ℕ) → ((k : ℕ) → q k < 64) → (t : ℕ) → woven w s q t < 64
-  woven-lt q h =
-      by-lane (λ t. woven w s q t < 64) (λ t l. subst (λ (n : ℕ). n < 64) (sym (woven-window q t l)) (mixed-lt q s t))
-      (λ t l g. subst (λ (n : ℕ). n < 64) (sym (woven-past q t l g)) (omega arith))
-      (λ k. subst (λ (n : ℕ). n < 64) (sym (woven-coef q k)) (h k))
+pub woven-none : (s : List ℕ) (q : ℕ → ℕ) → ((k : ℕ) → q k ≡ 0) → (t : ℕ) → woven s q t ≡ 0
+woven-none s q h = by-lane (λ t. woven s q t ≡ 0) (λ t l. woven-window s q t l ∙ mixed-none q s t h) (λ k. woven-coef s q k ∙ h k)
 
-  pub woven-none : (q : ℕ → ℕ) → ((k : ℕ) → q k ≡ 0) → (t : ℕ) → woven w s q t ≡ 0
-  woven-none q h = by-lane (λ t. woven w s q t ≡ 0) (λ t l. woven-window q t l ∙ mixed-none q s t h) (woven-past q) (λ k. woven-coef q k ∙ h k)
-
-  -- all lanes of a row are linear in its coefficients
-  pub woven-added : (q r p : ℕ → ℕ) (f : ℕ) → ((k : ℕ) → r k ≡ sum (q k) (product f (p k))) → (t : ℕ)
-      → woven w s r t ≡ sum (woven w s q t) (product f (woven w s p t))
-  woven-added q r p f h =
-      by-lane (λ t. woven w s r t ≡ sum (woven w s q t) (product f (woven w s p t)))
-      (λ t l. woven-window r t l ∙ mixed-added q r p f s t h ∙ sym (ap₂ (λ (a b : ℕ). sum a (product f b)) (woven-window q t l) (woven-window p t l)))
-      (λ t l g.
-      woven-past r t l g
-      ∙ sym (ap₂ (λ (a b : ℕ). sum a (product f b)) (woven-past q t l g) (woven-past p t l g) ∙ ap (sum 0) (Laws.product-zero f) ∙ Laws.sum-self 0))
-      (λ k. woven-coef r k ∙ h k ∙ sym (ap₂ (λ (a b : ℕ). sum a (product f b)) (woven-coef q k) (woven-coef p k)))
+-- all lanes of a row are linear in its coefficients
+pub woven-added : (s : List ℕ) (q r p : ℕ → ℕ) (f : ℕ) → ((k : ℕ) → r k ≡ sum (q k) (product f (p k))) → (t : ℕ)
+    → woven s r t ≡ sum (woven s q t) (product f (woven s p t))
+woven-added s q r p f h =
+    by-lane (λ t. woven s r t ≡ sum (woven s q t) (product f (woven s p t)))
+    (λ t l. woven-window s r t l ∙ mixed-added q r p f s t h ∙ sym (ap₂ (λ (a b : ℕ). sum a (product f b)) (woven-window s q t l) (woven-window s p t l)))
+    (λ k. woven-coef s r k ∙ h k ∙ sym (ap₂ (λ (a b : ℕ). sum a (product f b)) (woven-coef s q k) (woven-coef s p k)))
 
 -- ---- rows as lists, of any entries that are 0 outside
 

@@ -1,7 +1,6 @@
 -- `mender::zero_first` meets its contract: c lanes are 0 where their number is.
 use borrow.Author.Needs.{needs}
-use Rattle.mender.proofs.Repairing.{zero-past, zero-lanes}
-use Rattle.mender.proofs.rows.Loops.{width-pos}
+use Rattle.mender.proofs.Repairing.{zero-past, width-pos, zero-lanes}
 use Rattle.mender.proofs.zero_first.Statement.{statement}
 use Rattle.mender.proofs.zero_first.Tie as tie
 
@@ -15,4 +14,4 @@ returns-2 : tie.Need-returns-2
 returns-2 c = search (zero-lanes, needs)
 
 pub zero-first-spec : {M : Type 1} → statement M
-zero-first-spec = tie.close (tie.spec (λ c κs. search needs) returns (λ c κs. search needs) rem-result returns-2)
+zero-first-spec = tie.close (tie.spec (λ c κs. search needs) returns (λ c. search needs) (λ c. search needs) rem-result returns-2)

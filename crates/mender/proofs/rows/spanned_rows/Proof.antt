@@ -11,10 +11,10 @@ use Rattle.mender.proofs.rows.spanned_rows.Statement.{statement}
 use Rattle.mender.proofs.rows.spanned_rows.Tie as tie
 
 abbrev Inv-loop : tie.InvT-loop
-Inv-loop sums e n most x₀ j₀ x j = (j ≤ 5) × (most ≡ min n 5) × RowsFrom sums e most (min j most) x
+Inv-loop sums e n most x₀ j₀ x j = (j ≤ most) × (most ≡ min n 5) × RowsFrom sums e j x
 
 abbrev μ-loop : tie.MeasureT-loop
-μ-loop sums e n most x₀ j₀ x j = 5 - j
+μ-loop sums e n most x₀ j₀ x j = most - j
 
 loop-holds : tie.Need-loop-holds Inv-loop μ-loop
 loop-holds c = search (from-units, needs)
@@ -25,12 +25,12 @@ row-cleared-requires c κs = search (pivot-row-lane, needs)
 loop-again : tie.Need-loop-again Inv-loop μ-loop
 loop-again c =
     let inv = c .before .before .before .loop .inv in
-    let few : c .before .before .before .loop .j < 5 = search needs in
+    let few : c .before .before .before .loop .j < 5 = omega arith in
     let pivot = c .before .pivot-row .ensures in
-    (search needs, inv .1, ⊎-elim (λ w. from-step _ _ _ _ _ _ _ (omega arith) few (inv .2) pivot _ (w .0 .taken) (w .1 .ensures) (w .2)) (λ w. from-skip _ _ _ _ _ _ _ (omega arith) few (inv .2) pivot (w .0 .left) (w .1)) (c .if1 .came))
+    (search needs, inv .1, ⊎-elim (λ w. from-step _ _ _ _ _ _ _ few (w .0 .taken) (inv .2) pivot (w .1 .ensures) (w .2)) (λ w. from-skip _ _ _ _ _ _ few (w .0 .left) (inv .2) pivot (w .1)) (c .if1 .came))
 
 returns : tie.Need-returns Inv-loop μ-loop
-returns c = search (from-all, needs)
+returns c = from-all _ _ _ _ _ (omega arith) (omega arith) (c .before .loop .inv .2)
 
 pub spanned-rows-spec : {M : Type 1} → statement M
 spanned-rows-spec =

@@ -1,16 +1,15 @@
 -- `mender::rows::unit_rows` meets its contract: the first i rows are set.
 use borrow.Author.Needs.{needs}
-use mathlib.Core.Path.{_≡_}
-use Prim.Native.Nat.{suc, _≤_, _-_, _^_}
-use Rattle.mender.proofs.rows.Loops.{UnitRowsTo, unit-rows-none, one-mul, one-add, unit-rows-again, unit-rows-all, width-pos}
+use Prim.Native.Nat.{suc, _≤_, _-_}
+use Rattle.mender.proofs.rows.Loops.{UnitRowsTo, unit-rows-none, one-mul, one-add, unit-rows-again, unit-rows-all}
 use Rattle.mender.proofs.rows.unit_rows.Statement.{statement}
 use Rattle.mender.proofs.rows.unit_rows.Tie as tie
 
 abbrev Inv-loop : tie.InvT-loop
-Inv-loop sums e w y x₀ q₀ one₀ i₀ x q one i = (i ≤ suc e) × (y ≡ 64 ^ w) × UnitRowsTo sums w x q one i
+Inv-loop sums e x₀ q₀ one₀ i₀ x q one i = (i ≤ suc e) × UnitRowsTo sums x q one i
 
 abbrev μ-loop : tie.MeasureT-loop
-μ-loop sums e w y x₀ q₀ one₀ i₀ x q one i = suc e - i
+μ-loop sums e x₀ q₀ one₀ i₀ x q one i = suc e - i
 
 loop-holds : tie.Need-loop-holds Inv-loop μ-loop
 loop-holds c = search (unit-rows-none, needs)
@@ -33,10 +32,8 @@ unit-rows-spec =
     (tie.spec
     Inv-loop
     μ-loop
-    (λ c κs. search needs)
     loop-holds
     mul-one
-    (λ c. search (width-pos, needs))
     add-x
     (λ c. search needs)
     (λ c. search needs)

@@ -59,10 +59,7 @@ module _ (h : Sums) (c e : ℕ) (x : List ℕ) (r : ℕ) (out : Mended) (b : (c 
         total-same 6 (λ i. product (getD p i 0) (getD (eleven h) (5 + i) 0)) (λ i. product (lane (getD x r 0) (5 + i)) (getD (eleven h) (5 + i) 0))
         (λ i b. ap (λ (t : ℕ). product t (getD (eleven h) (5 + i) 0)) (k .entry i b))
 
-    module _ (s : List ℕ) (es : s ≡ eleven h) (y : Pattern) (v : Patterned p s y) where
-      here : Patterned p (eleven h) y
-      here = subst (λ (t : List ℕ). Patterned p t y) es v
-
+    module _ (y : Pattern) (here : Patterned p (eleven h) y) where
       pub too-heavy : e < y .weight → Nothing out → MendsTo (eleven h) c e out
       too-heavy g n = found-heavy (eleven h) c e (min (c - c / 2) 5) r p out told least (y .word) (here .valued) (y .weight) (here .weighs) g n
 
@@ -76,13 +73,13 @@ module _ (h : Sums) (c e : ℕ) (x : List ℕ) (r : ℕ) (out : Mended) (b : (c 
             (here .ends) g q
 
 -- the coefficients of the first row combine the windows to 0
-pub locator-kills : (h : Sums) (c e : ℕ) (x : List ℕ) (r : ℕ) (p s : List ℕ) (n : ℕ) → RowsFrom (h .first) e (min (c - c / 2) 5) x → FirstRow x r → r < 6
-    → Coefficients (getD x r 0) p → s ≡ eleven h → n ≡ min (c - c / 2) 5 → Kills p s n
-locator-kills h c e x r p s n rows f l k es en =
+pub locator-kills : (h : Sums) (c e : ℕ) (x : List ℕ) (r : ℕ) (p : List ℕ) (n : ℕ) → RowsFrom (h .first) e (min (c - c / 2) 5) x → FirstRow x r → r < 6
+    → Coefficients (getD x r 0) p → n ≡ min (c - c / 2) 5 → Kills p (eleven h) n
+locator-kills h c e x r p n rows f l k en =
     let a : Least (eleven h) e (min (c - c / 2) 5) r p = rows-first (eleven h) e (min (c - c / 2) 5) x (rows .hold (eleven h) (sums-in h)) r p l f k in
     record {
       few = omega arith;
-      window = λ j g. ap (λ (t : List ℕ). mixed (coef p) t j) es ∙ a .kernel j (omega arith);
+      window = λ j g. a .kernel j (omega arith);
     }
 
 -- the row fails the sixth window

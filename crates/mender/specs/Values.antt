@@ -59,6 +59,10 @@ inverseOrNone v = cond (eqb v 0) 0 (inverse v)
 unfoldable pub quotientAt : ℕ → ℕ → ℕ → ℕ
 quotientAt f n x = product (power x (5 - n)) (product (numeratorAt f x) (inverseOrNone (denominatorAt f x)))
 
+-- ten lanes as a list
+unfoldable pub lanesOf : ℕ → List ℕ
+lanesOf p = listed (lane p) 0 10
+
 -- coefficient m of the numerator, for the locator in the lanes of q and the sums from n on
 unfoldable pub numeratorOf : ℕ → List ℕ → ℕ → ℕ → ℕ
 numeratorOf q s n m = total 5 (λ k. product (lane q (suc (m + k))) (getD s (n + k) 0))

@@ -250,8 +250,7 @@ fn find(s: Sums, c: usize, e: usize) -> Mended
             return nothing();
         }
     }
-    let sums = sums::unpacked(s);
-    let pattern = values::values_at_roots(row, rows::coefficients(row), sums, least(c - c / 2, 5));
+    let pattern = values::values_at_roots(row, rows::coefficients(row), s, least(c - c / 2, 5));
     if pattern.weight as usize > e {
         return nothing();
     }

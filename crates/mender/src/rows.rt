@@ -94,7 +94,7 @@ fn multiples(a: u64) -> [u64; 8]
 }
 
 // Lane j.
-fn lane_of(x: u64, j: usize) -> u8
+pub fn lane_of(x: u64, j: usize) -> u8
     requires { ⌜ j < 10 ⌝ }
     ensures { λ r. ⌜ r ≡ lane x j ⌝ }
 {

@@ -2,15 +2,18 @@
 ghost use mathlib.Core.Path.{_≡_};
 ghost use Prim.Native.Nat.{_^_, _<_, _≤_};
 ghost use Rattle.mender.specs.Rows.{Coefficients};
-ghost use Rattle.mender.specs.Values.{Patterned, Placed, PlacesFrom, QuotientsIn, QuotientsAhead, QuotientNext, BothAt, Spread, lastOf, inverseOrNone, InversesIn, Raised, NumeratorIn, DenominatorIn, FractionIn, Kills};
+ghost use Rattle.mender.specs.Values.{Patterned, Placed, PlacesFrom, QuotientsIn, QuotientsAhead, QuotientNext, BothAt, Spread, lastOf, inverseOrNone, InversesIn, Raised, NumeratorIn, DenominatorIn, FractionIn, Kills, lanesOf};
+ghost use Rattle.sums.specs.Held.{eleven};
 use super::NOWHERE;
 use super::least;
+use super::rows::lane_of;
 use lanes::FIVE_LANES;
 use lanes::FIVE_ONES;
 use lanes::FOUR_LANES;
 use lanes::SIX_LANES;
 use lanes::THREE_LANES;
 use lanes::TWO_LANES;
+use sums::Sums;
 
 // A pattern of errors, how many of its characters are not 0, and the first and the last address of these.
 pub struct Pattern {
@@ -28,14 +31,14 @@ struct Ahead {
 
 // The values at the roots of the locator p, the coefficients of a row that combines the first n windows to 0: the place of address 62 - l is α^l.
 // No other place has a value.
-pub fn values_at_roots(row: u64, p: [u8; 6], s: [u8; 11], n: usize) -> Pattern
+pub fn values_at_roots(row: u64, p: [u8; 6], s: Sums, n: usize) -> Pattern
     requires { ⌜ Coefficients row p ⌝ }
-    requires { ⌜ Kills p s n ⌝ }
-    ensures { λ r. ⌜ Patterned p s r ⌝ }
+    requires { ⌜ Kills p (eleven s) n ⌝ }
+    ensures { λ r. ⌜ Patterned p (eleven s) r ⌝ }
 {
     placed(
         planes::roots(p),
-        fraction(row / FIVE_LANES % SIX_LANES, s, n),
+        fraction(row / FIVE_LANES % SIX_LANES, s.first, n),
         n,
     )
 }
@@ -190,23 +193,24 @@ fn raised(v: u64, x: u64, n: usize) -> u64
 }
 
 // The fraction whose value at a root of the locator q is the error's: numerator and denominator, side by side.
-fn fraction(q: u64, s: [u8; 11], n: usize) -> u64
+fn fraction(q: u64, sums: u64, n: usize) -> u64
     requires { ⌜ n ≤ 5 ⌝ }
-    ensures { λ r. ⌜ FractionIn q s n r ⌝ }
+    ensures { λ r. ⌜ FractionIn q (lanesOf sums) n r ⌝ }
 {
-    numerator(q, s, n) + denominator(q) * FIVE_LANES
+    numerator(q, sums, n) + denominator(q) * FIVE_LANES
 }
 
 // The numerator: its coefficient m has the locator's coefficients from m + 1 on, each times its turn's sum, of the sums from n on.
-fn numerator(q: u64, s: [u8; 11], n: usize) -> u64
+fn numerator(q: u64, sums: u64, n: usize) -> u64
     requires { ⌜ n ≤ 5 ⌝ }
-    ensures { λ r. ⌜ NumeratorIn q s n r ⌝ }
+    ensures { λ r. ⌜ NumeratorIn q (lanesOf sums) n r ⌝ }
 {
+    let from = sums >> (6 * n);
     let mut c: u64 = 0;
     let mut k: usize = 5;
     while k > 0 {
         k -= 1;
-        c = (c ^ lanes::scale(q, s[n + k])) / 64;
+        c = (c ^ lanes::scale(q, lane_of(from, k))) / 64;
     }
     c % FIVE_LANES
 }

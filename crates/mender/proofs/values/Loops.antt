@@ -17,11 +17,13 @@ use Rattle.field.proofs.Laws
 use Rattle.numbers.proofs.Totals.{total-same}
 use Rattle.field.proofs.Totals.{total-front}
 use Rattle.lanes.specs.Lanes.{pack, lane}
-use Rattle.lanes.proofs.Laws.{lane-lt, lane-zero, lane-suc, lane-xor}
+use Rattle.lanes.proofs.Laws.{lane-lt, lane-zero, lane-suc, lane-after, lane-xor}
+use Rattle.code.proofs.Words.{listed-get}
 use Rattle.polynomial.specs.Polynomial.{polyAt}
 use Rattle.code.specs.Word.{listed}
 use Rattle.planes.specs.Roots.{FirstFrom}
-use Rattle.mender.specs.Values.{rootAfter, rootAt, PlacesFrom, evaluated, numeratorAt, denominatorAt, numeratorOf, NumeratorIn, Spread, BothAt, InversesIn, inverseOrNone, Raised}
+use Rattle.mender.specs.Values.{rootAfter, rootAt, PlacesFrom, evaluated, numeratorAt, denominatorAt, numeratorOf, NumeratorIn, lanesOf, Spread, BothAt, InversesIn, inverseOrNone, Raised}
+use Rattle.mender.proofs.rows.Loops.{pow-lane}
 use Rattle.mender.proofs.rows.Weaving.{lane-none}
 use Rattle.mender.proofs.values.Lanes.{low-lanes, products-lane, scale-lane, pushed-below, pushed-more, joined-low, joined-high}
 use Rattle.mender.proofs.values.Roots.{root-after, root-last}
@@ -245,6 +247,21 @@ numerator-again q s n c (suc k) t h a e =
   where
     one : (k : ℕ) → k ≡ suc k - 1
     one k = omega arith
+
+-- as the code takes a sum: the lanes from n on, and of these lane k
+pub sum-from : (sums n k from v : ℕ) → n ≤ 5 → k < 5 → from ≡ sums / 2 ^ (6 * n) → v ≡ lane from k → v ≡ getD (lanesOf sums) (n + k) 0
+unfolding lanesOf
+sum-from sums n k from v h l ef ev =
+    ev ∙ ap (λ (p : ℕ). lane p k) (ef ∙ ap (λ (m : ℕ). sums / m) (pow-lane n)) ∙ lane-after sums n k ∙ sym (listed-get (lane sums) 10 (n + k) (omega arith))
+
+pub numerator-inside : (q : ℕ) (s : List ℕ) (n c k : ℕ) → 0 < k → NumeratorTo q s n c k → k - 1 < 10
+numerator-inside q s n c k h a = let m = a .most in omega arith
+
+pub numerator-turn : (q sums n c k t from v : ℕ) → n ≤ 5 → 0 < k → from ≡ sums / 2 ^ (6 * n) → NumeratorTo q (lanesOf sums) n c k → v ≡ lane from (k - 1)
+    → t ≡ pack 10 (λ i. product (lane q i) v) → NumeratorTo q (lanesOf sums) n (bitXor c t / 64) (k - 1)
+numerator-turn q sums n c k t from v h p ef a ev et =
+    numerator-again q (lanesOf sums) n c k t p a
+    (et ∙ ap (λ (y : ℕ). pack 10 (λ i. product (lane q i) y)) (sum-from sums n (k - 1) from v h (let m = a .most in omega arith) ef ev))
 
 pub numerator-all : (q : ℕ) (s : List ℕ) (n c k : ℕ) → k ≤ 0 → NumeratorTo q s n c k → NumeratorIn q s n (c % 1073741824)
 unfolding numeratorOf

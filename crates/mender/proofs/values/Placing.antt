@@ -19,7 +19,11 @@ use Rattle.polynomial.specs.Polynomial.{polyAt}
 use Rattle.planes.specs.Roots.{RootsOf}
 use Rattle.planes.proofs.Theorems.{set-root, clear-other}
 use Rattle.code.specs.Inside.{Ends}
-use Rattle.code.proofs.Words.{zero-get}
+use Rattle.code.specs.Word.{listed}
+use Rattle.code.proofs.Words.{zero-get, listed-get}
+use Rattle.sums.specs.declared.Sums.{Sums}
+use Rattle.sums.specs.Held.{eleven}
+use Rattle.sums.proofs.Holding.{eleven-first}
 use Rattle.code.proofs.Distances.{weight-le}
 use Rattle.code.proofs.Changes.{ends-none, ends-one, ends-more}
 use Rattle.mender.specs.declared.values.Pattern.{Pattern}
@@ -27,7 +31,7 @@ use Rattle.mender.specs.declared.values.Ahead.{Ahead}
 use Rattle.mender.specs.Inside.{valueOf}
 use Rattle.mender.specs.Rows.{Coefficients}
 use Rattle.planes.specs.Roots.{FirstFrom}
-use Rattle.mender.specs.Values.{Patterned, rootAfter, rootAt, numeratorAt, denominatorAt, numeratorOf, denominatorOf, quotientAt, FractionIn, QuotientsAhead, QuotientNext, Placed, lastOf, Kills, inverseOrNone}
+use Rattle.mender.specs.Values.{Patterned, rootAfter, rootAt, numeratorAt, denominatorAt, numeratorOf, denominatorOf, quotientAt, FractionIn, QuotientsAhead, QuotientNext, Placed, lastOf, lanesOf, Kills, inverseOrNone}
 use Rattle.mender.proofs.OneError.{weight-set, weight-nothing, nonzero-pos}
 use Rattle.mender.proofs.values.Fractions.{window-is, slope-is, value-is-quotient}
 use Rattle.mender.proofs.rows.Loops.{coefficients-small}
@@ -204,28 +208,43 @@ held-lane row p k c =
     ∙ sym (c .entry k h))
     (le-or-lt 6 k)
 
-module _ (row : ℕ) (p s : List ℕ) (n f : ℕ) (c : Coefficients row p) (k : Kills p s n) (b : FractionIn (row / 1073741824 % 68719476736) s n f) where
+-- the sums that a fraction takes are those of eleven
+fraction-eleven : (q n f : ℕ) (h : Sums) → n ≤ 5 → FractionIn q (lanesOf (h .first)) n f → FractionIn q (eleven h) n f
+unfolding numeratorOf lanesOf
+fraction-eleven q n f h l b =
+    record {
+      above = λ m g.
+          b .above m g
+          ∙ total-same 5 (λ k. product (lane q (suc (m + k))) (getD (listed (lane (h .first)) 0 10) (n + k) 0)) (λ k. product (lane q (suc (m + k))) (getD (eleven h) (n + k) 0))
+          (λ k i. ap (product (lane q (suc (m + k)))) (listed-get (lane (h .first)) 10 (n + k) (omega arith) ∙ sym (eleven-first h (n + k) (omega arith))));
+      under = b .under;
+    }
+
+module _ (row : ℕ) (p : List ℕ) (h : Sums) (n f : ℕ) (c : Coefficients row p) (k : Kills p (eleven h) n) (given : FractionIn (row / 1073741824 % 68719476736) (lanesOf (h .first)) n f) where
+  b : FractionIn (row / 1073741824 % 68719476736) (eleven h) n f
+  b = fraction-eleven (row / 1073741824 % 68719476736) n f h (k .few) given
+
   -- at a root the quotient is the value
-  root-value : (x : ℕ) → polyAt p x ≡ 0 → quotientAt f n x ≡ valueOf p s x
+  root-value : (x : ℕ) → polyAt p x ≡ 0 → quotientAt f n x ≡ valueOf p (eleven h) x
   unfolding quotientAt numeratorAt denominatorAt numeratorOf denominatorOf
   root-value x root =
       ap (product (power x (5 - n)))
       (ap₂ (λ (u v : ℕ). product u (inverseOrNone v))
-      (window-is p s x (c .wide) n (lane f)
+      (window-is p (eleven h) x (c .wide) n (lane f)
       (λ m l.
       b .above m l
-      ∙ total-same 5 (λ i. product (lane (row / 1073741824 % 68719476736) (suc (m + i))) (getD s (n + i) 0)) (λ i. product (getD p (suc (m + i)) 0) (getD s (n + i) 0))
-      (λ i g. ap (λ (t : ℕ). product t (getD s (n + i) 0)) (held-lane row p (suc (m + i)) c))))
-      (slope-is p s x (c .wide) (λ m. lane f (5 + m)) (b .under 0 (omega arith) ∙ held-lane row p 1 c) (b .under 1 (omega arith))
+      ∙ total-same 5 (λ i. product (lane (row / 1073741824 % 68719476736) (suc (m + i))) (getD (eleven h) (n + i) 0)) (λ i. product (getD p (suc (m + i)) 0) (getD (eleven h) (n + i) 0))
+      (λ i g. ap (λ (t : ℕ). product t (getD (eleven h) (n + i) 0)) (held-lane row p (suc (m + i)) c))))
+      (slope-is p (eleven h) x (c .wide) (λ m. lane f (5 + m)) (b .under 0 (omega arith) ∙ held-lane row p 1 c) (b .under 1 (omega arith))
       (b .under 2 (omega arith) ∙ held-lane row p 3 c) (b .under 3 (omega arith)) (b .under 4 (omega arith) ∙ held-lane row p 5 c)))
-      ∙ value-is-quotient p s x n (c .wide) root k
+      ∙ value-is-quotient p (eleven h) x n (c .wide) root k
 
   -- where there is no root there is no value
-  no-value : (r l : ℕ) → RootsOf p r → l < 63 → r / 2 ^ l % 2 ≡ 0 → 0 ≡ valueOf p s (power α l)
+  no-value : (r l : ℕ) → RootsOf p r → l < 63 → r / 2 ^ l % 2 ≡ 0 → 0 ≡ valueOf p (eleven h) (power α l)
   unfolding valueOf
   no-value r l o h z = simp (ne-eqb (polyAt p (power α l)) 0 (clear-other p r (coefficients-small row p c) o l h z))
 
-  pub values-placed : (r : ℕ) (y : Pattern) → RootsOf p r → Placed r f n y → Patterned p s y
+  pub values-placed : (r : ℕ) (y : Pattern) → RootsOf p r → Placed r f n y → Patterned p (eleven h) y
   values-placed r y o a =
       record {
         valued = record {

@@ -1,17 +1,17 @@
 -- What the code of lanes does, a turn of each loop at a time, over plain variables.
 use mathlib.Core.Path.{_≡_, refl, sym, ap, ap₂, _∙_, subst}
 use Prim.Native.Nat.{ℕ, suc, _+_, _-_, _*_, _/_, _%_, _^_, _<_, _≤_}
-use native.Mathlib.Nat.{mul-comm, mul-div-cancel, zero-mul, one-mul, mod-eq-of-lt, zero-lt-suc, zero-add}
-use native.Mathlib.Numerals.{add-one}
+use native.Mathlib.Nat.{mul-comm, mul-div-cancel, zero-mul, one-mul, mod-eq-of-lt, zero-lt-suc, add-zero}
 use native.Mathlib.Omega.{arith}
 use lib.Bits.{bitXor, bitAnd, and-mask, and-high, and-comm, and-le-r, and-zero-l}
 use Rattle.numbers.proofs.Cases.{bit-cases}
 use Rattle.numbers.proofs.Xor.{xor-assoc}
 use Rattle.numbers.specs.Total.{total}
+use Rattle.numbers.proofs.Totals.{total-same, total-append, total-xor}
 use Rattle.field.specs.Field.{sum, timesX, shifted, product}
 use Rattle.field.proofs.Laws
 use Rattle.lanes.specs.Lanes.{pack, lane}
-use Rattle.lanes.proofs.Laws.{lane-lt, lane-zero, lane-suc, pack-same, pack-lt, low-pack, lane-pack, pack-lanes, xor-pack, and-lanes, times-pack}
+use Rattle.lanes.proofs.Laws.{lane-lt, lane-zero, lane-suc, lane-after, lane-xor, pack-same, pack-lt, low-pack, lane-pack, pack-lanes, xor-pack, and-lanes, times-pack}
 
 -- ---- masks
 
@@ -209,28 +209,39 @@ module _ (p q a b s i a′ : ℕ) (h : i < 6) (l : ProductsTo p q a b s i) (ea :
 pub products-all : (p q a b s i : ℕ) → 6 ≤ i → ProductsTo p q a b s i → s ≡ pack 10 (λ k. product (lane p k) (lane q k))
 products-all p q a b s i h l = lanes-all p (l .B) (lane q) a s i h (l .lanes-to)
 
--- ---- the sum of the lanes
+-- ---- the sum of ten lanes
 
--- i lanes are added, and q holds those after them
-pub record SummedTo (p q s i : ℕ) : Type 0 where
-  pub most : i ≤ 10
-  pub after : (k : ℕ) → lane q k ≡ lane p (i + k)
-  pub done : s ≡ total i (lane p)
+module _ (p : ℕ) where
+  -- five pairs
+  pairs : ℕ
+  pairs = bitXor p (p / 1073741824)
 
-pub summed-none : (p : ℕ) → SummedTo p p 0 0
-unfolding total
-summed-none p = record { most = omega arith; after = λ k. ap (lane p) (sym (zero-add k)); done = refl }
+  pair-at : (k : ℕ) → lane pairs k ≡ bitXor (lane p k) (lane p (5 + k))
+  unfolding pairs sum
+  pair-at k = lane-xor p (p / 1073741824) k ∙ ap (bitXor (lane p k)) (lane-after p 5 k)
 
-pub summed-again : (p q s i : ℕ) → i < 10 → SummedTo p q s i → SummedTo p (q / 64) (bitXor s (q % 64)) (i + 1)
-unfolding total
-summed-again p q s i h l =
-    record {
-      most = omega arith;
-      after = λ k. sym (lane-suc q k) ∙ l .after (suc k) ∙ ap (lane p) (omega arith);
-      done =
-          ap₂ bitXor (l .done) (sym (lane-zero q) ∙ l .after 0 ∙ ap (lane p) (omega arith))
-          ∙ ap (λ (n : ℕ). total n (lane p)) (sym (add-one i));
-    }
+  first-of : (n : ℕ) → lane (pairs / 64 ^ n) 0 ≡ lane pairs n
+  first-of n = lane-after pairs n 0 ∙ ap (lane pairs) (add-zero n)
 
-pub summed-all : (p q s i : ℕ) → 10 ≤ i → SummedTo p q s i → s ≡ total 10 (lane p)
-summed-all p q s i h l = l .done ∙ ap (λ (n : ℕ). total n (lane p)) (let m : i ≤ 10 = l .most in omega arith)
+  five-pairs : total 10 (lane p) ≡ total 5 (lane pairs)
+  five-pairs =
+      total-append 5 5 (lane p) ∙ sym (total-xor 5 (lane p) (λ k. lane p (5 + k)))
+      ∙ sym (total-same 5 (lane pairs) (λ k. bitXor (lane p k) (lane p (5 + k))) (λ k _. pair-at k))
+
+  pub ten-summed :
+      bitXor (bitXor (bitXor (bitXor (bitXor p (p / 1073741824)) (bitXor p (p / 1073741824) / 64)) (bitXor p (p / 1073741824) / 4096)) (bitXor p (p / 1073741824) / 262144))
+      (bitXor p (p / 1073741824) / 16777216) % 64
+      ≡ total 10 (lane p)
+  unfolding total sum pairs
+  ten-summed =
+      let q : ℕ = bitXor p (p / 1073741824) in
+      sym (lane-zero (bitXor (bitXor (bitXor (bitXor q (q / 64)) (q / 4096)) (q / 262144)) (q / 16777216)))
+      ∙ lane-xor (bitXor (bitXor (bitXor q (q / 64)) (q / 4096)) (q / 262144)) (q / 16777216) 0
+      ∙ ap₂ bitXor
+      (lane-xor (bitXor (bitXor q (q / 64)) (q / 4096)) (q / 262144) 0
+      ∙ ap₂ bitXor
+      (lane-xor (bitXor q (q / 64)) (q / 4096) 0
+      ∙ ap₂ bitXor (lane-xor q (q / 64) 0 ∙ ap₂ bitXor (sym (Laws.zero-sum (lane q 0))) (first-of 1)) (first-of 2))
+      (first-of 3))
+      (first-of 4)
+      ∙ sym five-pairs

@@ -111,17 +111,10 @@ pub fn products(p: u64, q: u64) -> u64
     s
 }
 
-// The sum of ten lanes.
+// The sum of ten lanes: each of five with the one five after it, and these together.
 pub fn sum_of(p: u64) -> u8
     ensures { λ r. ⌜ r ≡ total 10 (lane p) ⌝ }
 {
-    let mut q = p;
-    let mut s: u8 = 0;
-    let mut i: usize = 0;
-    while i < 10 {
-        s = s ^ (q % 64) as u8;
-        q = q / 64;
-        i += 1;
-    }
-    s
+    let q = p ^ (p / FIVE_LANES);
+    ((q ^ (q / 64) ^ (q / TWO_LANES) ^ (q / THREE_LANES) ^ (q / FOUR_LANES)) % 64) as u8
 }

@@ -23,7 +23,7 @@ ghost use mathlib.Core.Path.{_≡_};
 ghost use Prim.Native.Nat.{_≤_};
 ghost use lib.ListN.{length};
 use film::FilmElement;
-use film::FilmRegister;
+use film::recorder::FilmRegister;
 use libc::STDIN_FILENO;
 use libc::STDOUT_FILENO;
 
@@ -194,14 +194,14 @@ fn register_of(held: &[u8], count: u16) -> FilmRegister {
 }
 
 fn step(held: &[u8], count: u16, c: u8) {
-    let given = film::film_step(register_of(held, count), c);
+    let given = film::recorder::film_step(register_of(held, count), c);
     let after = given.register;
     let left = after.held;
     show(b"step", &[given.answer as u16, after.count as u16], &left);
 }
 
 fn checks(held: &[u8], count: u16) {
-    let given = film::film_checks(register_of(held, count));
+    let given = film::recorder::film_checks(register_of(held, count));
     let checks = given.checks;
     show(b"checks", &[given.answer as u16], &checks);
 }

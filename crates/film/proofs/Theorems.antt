@@ -14,6 +14,8 @@ use Rattle.line.specs.declared.Wanted.{Wanted}
 use Rattle.line.specs.declared.PlainReading.{PlainReading}
 use Rattle.line.specs.Promises as Line
 use Rattle.line.proofs.Theorems.{one-within, one-plain-reading}
+use Rattle.blots.specs.Promises as Blots
+use Rattle.blots.proofs.Theorems.{one-plain-blotted}
 use Rattle.spool.specs.Promises as Spool
 use Rattle.spool.proofs.Theorems.{same-spool}
 use Rattle.scans.specs.Promises as Scans
@@ -34,9 +36,9 @@ use Rattle.film.specs.declared.FilmList.{FilmList}
 use Rattle.film.specs.declared.FilmRing.{FilmRing}
 use Rattle.film.specs.declared.FilmPanel.{FilmPanel}
 use Rattle.film.specs.declared.FilmBlock.{FilmBlock}
-use Rattle.film.specs.declared.FilmRegister.{FilmRegister}
-use Rattle.film.specs.declared.FilmStepped.{FilmStepped}
-use Rattle.film.specs.declared.FilmChecked.{FilmChecked}
+use Rattle.film.specs.declared.recorder.FilmRegister.{FilmRegister}
+use Rattle.film.specs.declared.recorder.FilmStepped.{FilmStepped}
+use Rattle.film.specs.declared.recorder.FilmChecked.{FilmChecked}
 use Rattle.film.specs.Numbers.{elementNumbers, choiceNumbers, listNumbers, ringNumbers, panelNumbers, blockNumbers, registerOf, checkNumbers}
 
 -- ---- the field
@@ -82,6 +84,12 @@ one-check r a b p q =
 pub one-line-read : (w : List ℕ) (t : ℕ) (wanted : Wanted) (old : List ℕ) (r s : PlainReading) (x y : List ℕ)
     → Line.Reads w t wanted old (Line.plainNumbers r) x → Line.Reads w t wanted old (Line.plainNumbers s) y → (r ≡ s) × (x ≡ y)
 one-line-read = one-plain-reading
+
+-- ---- reading a line with blots
+
+pub one-blotted-read : (w m old : List ℕ) (r s : PlainReading) (x y : List ℕ)
+    → Blots.ReadsBlotted w m old (Line.plainNumbers r) x → Blots.ReadsBlotted w m old (Line.plainNumbers s) y → (r ≡ s) × (x ≡ y)
+one-blotted-read = one-plain-blotted
 
 -- ---- reading a spool
 

@@ -8,8 +8,8 @@ use Rattle.film.specs.declared.FilmList.{FilmList}
 use Rattle.film.specs.declared.FilmRing.{FilmRing}
 use Rattle.film.specs.declared.FilmPanel.{FilmPanel}
 use Rattle.film.specs.declared.FilmBlock.{FilmBlock}
-use Rattle.film.specs.declared.FilmRegister.{FilmRegister}
-use Rattle.film.specs.declared.FilmChecked.{FilmChecked}
+use Rattle.film.specs.declared.recorder.FilmRegister.{FilmRegister}
+use Rattle.film.specs.declared.recorder.FilmChecked.{FilmChecked}
 
 abbrev pub elementNumbers : FilmElement → List ℕ
 elementNumbers r = r .answer ∷ r .value ∷ []

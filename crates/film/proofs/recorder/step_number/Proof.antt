@@ -1,7 +1,7 @@
--- `film::step_number` gives a step's number: the arm of a refusal has the number of its reason.
+-- `film::recorder::step_number` gives a step's number: the arm of a refusal has the number of its reason.
 use borrow.Author.Needs.{needs}
-use Rattle.film.proofs.step_number.Statement.{statement}
-use Rattle.film.proofs.step_number.Tie as tie
+use Rattle.film.proofs.recorder.step_number.Statement.{statement}
+use Rattle.film.proofs.recorder.step_number.Tie as tie
 
 returns-2 : tie.Need-returns-2
 returns-2 c = simp (c .number .ensures, c .before .before .given .given .1)

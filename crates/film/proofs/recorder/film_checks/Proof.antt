@@ -1,7 +1,7 @@
--- `film::film_checks` promises what `Register::checks` does: the checks are handed on, and the number is the answer's.
+-- `film::recorder::film_checks` promises what `Register::checks` does: the checks are handed on, and the number is the answer's.
 use borrow.Author.Needs.{needs}
-use Rattle.film.proofs.film_checks.Statement.{statement}
-use Rattle.film.proofs.film_checks.Tie as tie
+use Rattle.film.proofs.recorder.film_checks.Statement.{statement}
+use Rattle.film.proofs.recorder.film_checks.Tie as tie
 
 returns : tie.Need-returns
 returns c = rw (c .before .check-number .ensures) (c .before .before .checks .ensures)

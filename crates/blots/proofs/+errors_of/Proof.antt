@@ -1,4 +1,7 @@
 -- `blots::errors_of` meets its contract, by the count of sums: each call of itself has one sum and one blot less.
+use mathlib.Core.Path.{_≡_}
+use native.Mathlib.Omega.{arith}
+use lib.ListN.{getD}
 use borrow.Author.Needs.{needs}
 use borrow.Author.Tests.{not-true, not-false}
 use Prim.Native.Nat.{ℕ, _<_}
@@ -63,7 +66,9 @@ pub +errors-of-spec : {M : Type 1} → statement M
     (λ c. search (none-cleared, not-true, needs))
     (λ c. search (word-long, not-false, needs))
     (λ c κs. search needs)
-    (λ c. search (none-there, not-false, needs))
+    (λ c.
+    let some : getD (c .before .before .before .before .before .errors-of .result .word) (c .before .before .before .before .before .before .before .before .before .first-set .result) 0 ≡ 0 → ⊥ = λ z. omega arith in
+    search (none-there, not-false, needs))
     (λ c. search needs)
     (λ c κs. (search needs, (search (word-is, not-false) depth 9, search (word-set, not-false) depth 9)))
     (λ c κs. search needs)

@@ -1,11 +1,13 @@
 -- `blots::errors_near` meets its contract: over eleven blots tell no line, and else the errors have the sums of what the word and a line differ by.
+use Prim.Native.Nat.{_<_}
+use native.Mathlib.Omega.{arith}
 use borrow.Author.Needs.{needs}
 use Rattle.blots.proofs.Finding.{none-over, few-enough, none-before, found-near}
 use Rattle.blots.proofs.errors_near.Statement.{statement}
 use Rattle.blots.proofs.errors_near.Tie as tie
 
 returns : tie.Need-returns
-returns c = search (none-over, needs)
+returns c = let many : 11 < c .before .before .set-in .result = omega arith in search (none-over, needs)
 
 errors-of-requires : tie.Need-errors-of-requires
 errors-of-requires c κs = search (few-enough, none-before, needs)

@@ -1,7 +1,8 @@
 -- `blots::marked` meets its contract: the bytes passed are 0 or 1.
-use Prim.Native.Nat.{_-_}
+use Prim.Native.Nat.{_-_, _<_}
+use native.Mathlib.Omega.{arith}
 use borrow.Author.Needs.{needs}
-use lib.ListN.{length}
+use lib.ListN.{length, getD}
 use Rattle.blots.proofs.Loops.{MarkedTo, marked-none, marked-again, marked-all, marked-not}
 use Rattle.blots.proofs.marked.Statement.{statement}
 use Rattle.blots.proofs.marked.Tie as tie
@@ -16,7 +17,10 @@ loop-holds : tie.Need-loop-holds Inv-loop μ-loop
 loop-holds c = search (marked-none, needs)
 
 returns : tie.Need-returns Inv-loop μ-loop
-returns c = search (marked-not, needs)
+returns c =
+    let there = c .before .before .before in
+    let over : 1 < getD (there .before .args .map .now) (there .loop .a) 0 = omega arith in
+    search (marked-not, needs)
 
 loop-again : tie.Need-loop-again Inv-loop μ-loop
 loop-again c = search (marked-again, needs)

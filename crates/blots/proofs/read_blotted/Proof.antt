@@ -7,6 +7,9 @@ use Rattle.blots.proofs.Reading.{refused, read, none-near, found-legibl
 use Rattle.blots.proofs.read_blotted.Statement.{statement}
 use Rattle.blots.proofs.read_blotted.Tie as tie
 
+returns-7 : tie.Need-returns-7
+returns-7 c = read _ _ _ _ _ (search (found-legible, verdicts) depth 12) (search (read-as, written, verdicts) depth 9)
+
 pub read-blotted-spec : {M : Type 1} → statement M
 read-blotted-spec =
     tie.close
@@ -32,4 +35,4 @@ read-blotted-spec =
     (λ c κs. search needs)
     (λ c. search (last-byte, needs))
     (λ c. search (written-long, needs))
-    (λ c. read _ _ _ _ _ (search (found-legible, verdicts) depth 12) (search (read-as, written, verdicts) depth 9)))
+    returns-7)

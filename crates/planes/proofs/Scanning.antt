@@ -52,6 +52,9 @@ low-place from = omega arith
 pub trailing-fits : (n : ℕ) → trailingZeros 64 n < 18446744073709551616
 trailing-fits n = let h : trailingZeros 64 n ≤ 64 = trailing-le 64 n in omega arith
 
+pub place-fits : (from n : ℕ) → from % 64 + trailingZeros 64 n < 18446744073709551616
+place-fits from n = let h : trailingZeros 64 n ≤ 64 = trailing-le 64 n in omega arith
+
 below-63 : (n l : ℕ) → l < 63 → n % 2 ^ 63 / 2 ^ l % 2 ≡ n / 2 ^ l % 2
 below-63 n l h =
     let e : 63 ≡ (62 - l) + 1 + l = omega arith in
@@ -92,7 +95,7 @@ module _ (bits from rest : ℕ) (h : from ≤ 63) (e : rest ≡ (bits % 92233720
   low : Lowest rest (trailingZeros 64 rest)
   low = trailing-lowest 64 rest (pos-of-not-zero rest some) fits
 
-  pub inside : from + trailingZeros 64 rest ≤ 63
+  inside : from + trailingZeros 64 rest ≤ 63
   inside =
       ⊎-elim (λ (g : from + trailingZeros 64 rest ≤ 63). g)
       (λ (g : 63 < from + trailingZeros 64 rest).

@@ -1,7 +1,7 @@
 -- `planes::first_from` meets its contract: the zeros below the lowest set bit of what is left are passed over.
 use borrow.Author.Needs.{needs}
 use mathlib.Core.Path.{refl}
-use Rattle.planes.proofs.Scanning.{low-place, first-bit, trailing-fits, inside}
+use Rattle.planes.proofs.Scanning.{low-place, first-bit, trailing-fits, place-fits}
 use Rattle.planes.proofs.first_from.Statement.{statement}
 use Rattle.planes.proofs.first_from.Tie as tie
 
@@ -9,7 +9,7 @@ cast-result : tie.Need-cast-result
 cast-result c = search (trailing-fits, needs)
 
 add-result : tie.Need-add-result
-add-result c = let b = inside (c .args .bits) _ _ (low-place (c .args .from)) refl in search needs
+add-result c = search (place-fits, needs)
 
 returns : tie.Need-returns
 returns c = first-bit (c .args .bits) _ _ (low-place (c .args .from)) refl

@@ -6,7 +6,6 @@ ghost use lib.ListN.{getD};
 ghost use Rattle.lanes.specs.Lanes.{lane};
 ghost use Rattle.mender.specs.Rows.{UnitRows, PivotRow, Multiples, RowsCleared, RowsFrom, FirstRow, Coefficients};
 use super::least;
-use super::ratio;
 use lanes::FIVE_LANES;
 use lanes::FOUR_LANES;
 use lanes::TEN_LANES;
@@ -69,13 +68,13 @@ fn row_cleared(mut x: [u64; 6], j: usize, p: usize) -> [u64; 6]
     ensures { λ r. ⌜ RowsCleared x j p r ⌝ }
 {
     let y = x[p];
-    let pivot = lane_of(y, j);
+    let inverse = field::inverse(lane_of(y, j));
     let a = y % TEN_LANES;
     let low = multiples(a);
     let high = multiples(lanes::scale(a, 8));
     let mut i = p + 1;
     while i < 6 {
-        let f = ratio(lane_of(x[i], j), pivot);
+        let f = lanes::times(inverse, lane_of(x[i], j));
         x[i] = x[i] ^ low[(f % 8) as usize] ^ high[(f / 8) as usize];
         i += 1;
     }

@@ -242,6 +242,12 @@ pub scaled-fits : (a f b : ℕ) → b ≡ pack 10 (λ k. product (lane a k) f) �
 scaled-fits a f b e = subst (λ (n : ℕ). n < 1152921504606846976) (sym e) (pack-lt 10 (λ k. product (lane a k) f) (λ k. Laws.product-lt (lane a k) f))
 
 -- a pivot, which is not 0, may be divided by
+pub pivot-divides : (y j d : ℕ) → 0 < lane y j → d ≡ lane y j → 0 < d % 64
+pivot-divides y j d p e = Laws.may-divide d (rw e (lane-lt y j)) (not-zero-of-pos (rw e p))
+
+pub inverse-lane : (x j d v : ℕ) → d ≡ lane x j → v ≡ inverse d → v ≡ inverse (lane x j)
+inverse-lane x j d v e f = f ∙ ap inverse e
+
 pub part-fits : (u v f : ℕ) → f ≡ product u v → f / 8 < 8
 part-fits u v f e = let b : f < 64 = subst (λ (n : ℕ). n < 64) (sym e) (Laws.product-lt u v) in omega arith
 
@@ -255,7 +261,7 @@ pub record RowsClearedTo (x : List ℕ) (j p : ℕ) (r : List ℕ) (i : ℕ) : T
 pub rows-cleared-none : (x : List ℕ) (j p : ℕ) → length x ≡ 6 → RowsClearedTo x j p x (p + 1)
 rows-cleared-none x j p w = record { long = w; before = λ k l. refl; done = λ k l b. absurd (omega arith); rest = λ k l. refl }
 
-rows-cleared-again : (x : List ℕ) (j p : ℕ) (r low high : List ℕ) (i d u f : ℕ) → p < i → i < 6 → d ≡ inverse (lane (getD x p 0) j) → u ≡ lane (getD r i 0) j
+pub rows-cleared-again : (x : List ℕ) (j p : ℕ) (r low high : List ℕ) (i d u f : ℕ) → p < i → i < 6 → d ≡ inverse (lane (getD x p 0) j) → u ≡ lane (getD r i 0) j
     → f ≡ product d u → Tables (getD x p 0) low high → RowsClearedTo x j p r i
     → RowsClearedTo x j p (set r i (bitXor (bitXor (getD r i 0) (getD low (f % 8) 0)) (getD high (f / 8) 0))) (i + 1)
 rows-cleared-again x j p r low high i d u f hp h ed eu ef t a =
@@ -274,17 +280,6 @@ rows-cleared-again x j p r low high i d u f hp h ed eu ef t a =
           k b l;
       rest = λ k l. getD-set-other r i k v 0 (λ q. omega arith) ∙ a .rest k (omega arith);
     }
-
--- as the code has the factor: the row's own lane by the pivot's
-pub rows-cleared-turn : (x : List ℕ) (j p : ℕ) (r low high : List ℕ) (i v u f : ℕ) → p < i → i < 6 → v ≡ lane (getD x p 0) j → u ≡ lane (getD r i 0) j
-    → f ≡ product u (inverse v) → Tables (getD x p 0) low high → RowsClearedTo x j p r i
-    → RowsClearedTo x j p (set r i (bitXor (bitXor (getD r i 0) (getD low (f % 8) 0)) (getD high (f / 8) 0))) (i + 1)
-rows-cleared-turn x j p r low high i v u f hp h ev eu ef =
-    rows-cleared-again x j p r low high i (inverse v) u f hp h (ap inverse ev) eu (ef ∙ Laws.product-comm u (inverse v))
-
-pub lane-divides : (y w j u v : ℕ) → 0 < lane y j → v ≡ lane y j → u ≡ lane w j → (u < 64) × (v < 64) × (0 < v)
-lane-divides y w j u v h ev eu =
-    (subst (λ (n : ℕ). n < 64) (sym eu) (lane-lt w j), subst (λ (n : ℕ). n < 64) (sym ev) (lane-lt y j), subst (λ (n : ℕ). 0 < n) (sym ev) h)
 
 pub rows-cleared-all : (x : List ℕ) (j p : ℕ) (r : List ℕ) (i : ℕ) → p < 6 → 6 ≤ i → RowsClearedTo x j p r i → RowsCleared x j p (set r p 0)
 rows-cleared-all x j p r i h l a =

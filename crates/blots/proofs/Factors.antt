@@ -1,15 +1,15 @@
 -- Clearing a blot's place: what it does to errors and to their sums, down to one blot less and back.
-use mathlib.Core.Path.{_≡_, refl, sym, ap, ap₂, _∙_, subst}
+use mathlib.Core.Path.{_≡_, sym, ap, ap₂, _∙_, subst}
 use mathlib.Core.Logic.{⊎-elim}
 use mathlib.Core.List.{List, [], _∷_}
-use Prim.Native.Nat.{ℕ, zero, suc, _+_, _-_, _*_, _/_, _%_, _<_, _≤_}
+use Prim.Native.Nat.{ℕ, zero, suc, _+_, _-_, _/_, _<_, _≤_}
 use native.Mathlib.Nat.{add-suc}
 use native.Mathlib.Omega.{arith}
-use lib.ListN.{length, getD, set, length-set, List·getD-eq-default}
-use Rattle.numbers.proofs.Cases.{le-or-lt, same-or-not, pos-of-not-zero}
+use lib.ListN.{length, getD, set, List·getD-eq-default}
+use Rattle.numbers.proofs.Cases.{le-or-lt, pos-of-not-zero}
 use Rattle.field.specs.Field.{sum, product, α, power}
 use Rattle.field.proofs.Laws
-use Rattle.polynomial.specs.Sums.{weight, moment, Values}
+use Rattle.polynomial.specs.Sums.{weight, Values}
 use Rattle.polynomial.specs.Polynomial.{polyAt, combined, weighted}
 use Rattle.polynomial.proofs.Places.{values-long}
 use Rattle.polynomial.proofs.Combining.{weighted-values, weighted-moment, weighted-get}
@@ -128,12 +128,6 @@ module _ (m x u : List ℕ) (blot : ℕ) (inside : blot < 63) (lx : length x ≡
 module _ (s t m : List ℕ) (c blot : ℕ) (inside : blot < 63) (few : suc c ≤ 11) (there : getD m blot 0 ≡ 0 → ⊥) (clears : Cleared s (placeOf blot) t) where
   -- cleared errors fit the cleared sums, and have nothing at the blot
   module _ (x : List ℕ) (fits : FitsBlotted s (suc c) m x) where
-    y : ℕ
-    y = placeOf blot
-
-    u : List ℕ
-    u = clearedOf (placeOf blot) x
-
     u-at : (a : ℕ) → a < 63 → getD (clearedOf (placeOf blot) x) a 0 ≡ product (getD x a 0) (sum (placeOf a) (placeOf blot))
     u-at = cleared-at x (fits .long) (fits .characters) (placeOf blot)
 

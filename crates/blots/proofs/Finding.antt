@@ -1,9 +1,8 @@
 -- From the sums to the errors: where no blot is left, with a blot more, and of a word; each way out of looking for them.
-use mathlib.Core.Path.{_≡_, refl, sym, ap, ap₂, _∙_, subst}
+use mathlib.Core.Path.{_≡_, sym, ap, ap₂, _∙_, subst}
 use mathlib.Core.Bool.{Bool, true, false}
-use mathlib.Core.List.{List, []}
-use Prim.Native.Nat.{ℕ, zero, suc, min, _+_, _-_, _*_, _/_, _%_, _^_, _<_, _≤_}
-use native.Mathlib.Nat.{le-trans}
+use mathlib.Core.List.{List}
+use Prim.Native.Nat.{ℕ, zero, suc, min, _+_, _-_, _/_, _%_, _^_, _<_, _≤_}
 use native.Mathlib.Omega.{arith}
 use lib.ListN.{length, getD, set, length-set}
 use lib.Seq.{getD-set-same, getD-set-other}
@@ -13,8 +12,7 @@ use Rattle.field.specs.Field.{sum}
 use Rattle.field.proofs.Laws
 use Rattle.polynomial.specs.Sums.{weight}
 use Rattle.polynomial.proofs.Vandermonde.{zeros-get}
-use Rattle.code.specs.Word.{Characters, powerSum, marks, added, Line, distance}
-use Rattle.code.specs.Inside.{PowerSums}
+use Rattle.code.specs.Word.{Characters, powerSum, marks, added}
 use Rattle.code.proofs.Words.{length-added, characters-added, added-get, added-comm, added-twice}
 use Rattle.code.proofs.Sums.{powerSum-added}
 use Rattle.code.proofs.Lines.{line-long, line-characters, line-sums, sums-line}
@@ -22,7 +20,7 @@ use Rattle.code.proofs.Distances.{distance-weight, weight-none}
 use Rattle.sums.specs.declared.Sums.{Sums}
 use Rattle.sums.specs.Held.{eleven}
 use Rattle.mender.specs.declared.Mended.{Mended}
-use Rattle.mender.specs.Mender.{Fits, Mends, MendsTo, Word}
+use Rattle.mender.specs.Mender.{Mends, MendsTo, Word}
 use Rattle.mender.proofs.Finding.{true-false}
 use Rattle.line.specs.Inside.{ErrorSums}
 use Rattle.blots.specs.Promises.{seen, blots, outside, BlottedLine}
@@ -95,9 +93,6 @@ module _ (m : List ℕ) (c blot : ℕ) (long : length m ≡ 63) (few : weight m 
   one-fewer n e = let l = some-sum in omega arith
 
   module _ (h : Sums) (t : List ℕ) (y : ℕ) (r : Errors) (small : c ≤ 11) (ey : y ≡ placeOf blot) (clears : Cleared (eleven h) y t) (finds : Finds t (c - 1) (set m blot 0) r) where
-    s : List ℕ
-    s = eleven h
-
     one-more : suc (c - 1) ≡ c
     one-more = let l = some-sum in omega arith
 

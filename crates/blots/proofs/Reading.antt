@@ -1,5 +1,5 @@
 -- The ways out of reading a line with blots, a test at a time, in the paper's order.
-use mathlib.Core.Path.{_≡_, refl, sym, ap, ap₂, _∙_, subst}
+use mathlib.Core.Path.{_≡_, sym, ap, ap₂, _∙_, subst}
 use mathlib.Core.Bool.{Bool, true, false}
 use mathlib.Core.Logic.{⊎-elim}
 use mathlib.Core.List.{List, [], _∷_}
@@ -12,12 +12,12 @@ use Rattle.numbers.proofs.Cases.{le-or-lt}
 use Rattle.refusal.specs.Promise.{Test}
 use Rattle.refusal.proofs.Ladder.{Yes, No, Met, FailsAt, answerAt, refuses, succeeds}
 use Rattle.polynomial.specs.Sums.{weight}
-use Rattle.code.specs.Word.{Characters, number, distance, added, nowhere}
+use Rattle.code.specs.Word.{Characters, number, distance, added}
 use Rattle.code.specs.Inside.{Ends}
 use Rattle.code.proofs.Words.{zero-get}
 use Rattle.code.proofs.Lines.{line-characters}
 use Rattle.code.proofs.Distances.{distance-added, weight-le}
-use Rattle.code.proofs.Changes.{Same, First, Last, first-at, last-at, ends-none, ends-added}
+use Rattle.code.proofs.Changes.{Same, first-at, last-at, ends-none, ends-added}
 use Rattle.mender.specs.Found.{Corrects}
 use Rattle.line.specs.Promises.{told}
 use Rattle.blots.specs.declared.Errors.{Errors}

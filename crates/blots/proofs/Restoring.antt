@@ -10,14 +10,14 @@ use lib.ListN as ListN
 use lib.ListN.{length, getD, set, length-set}
 use lib.Seq.{getD-set-same, getD-set-other}
 use lib.Bits.{bitXor, bitOr}
-use Rattle.numbers.proofs.Cases.{le-or-lt, same-or-not, pos-of-not-zero}
+use Rattle.numbers.proofs.Cases.{same-or-not}
 use Rattle.numbers.specs.Total.{total}
 use Rattle.numbers.proofs.Totals.{total-same, total-lt}
 use Rattle.field.specs.Field.{sum, product, α, power}
 use Rattle.field.specs.Inside.{inverse}
 use Rattle.field.proofs.Laws
 use Rattle.lanes.specs.Lanes.{pack, lane}
-use Rattle.lanes.proofs.Laws.{lane-lt, lane-pack, lane-xor, lane-zero}
+use Rattle.lanes.proofs.Laws.{lane-pack, lane-xor, lane-zero}
 use Rattle.places.specs.Logs.{LogOf}
 use Rattle.code.specs.Word.{powerSum}
 use Rattle.code.proofs.Words.{characters-below}
@@ -29,7 +29,7 @@ use Rattle.mender.specs.Mender.{Word}
 use Rattle.mender.proofs.OneError.{after-first}
 use Rattle.planes.specs.Roots.{FirstFrom}
 use Rattle.blots.specs.Inside.{Holds, placeOf, shareOf, valueOf, Cleared, Restored}
-use Rattle.blots.proofs.Factors.{place-lt, factor-pos, factor-lt}
+use Rattle.blots.proofs.Factors.{factor-pos, factor-lt}
 use Rattle.blots.proofs.Loops.{set-more, set-here}
 
 -- ---- a place, what a character has of S_-5, and the character that has so much
@@ -106,9 +106,6 @@ divided-is v a b x y i m r h d ex ey ei g er =
 
 pub inverse-fits : (x i : ℕ) → i ≡ inverse x → i < 64
 inverse-fits x i e = subst (λ (c : ℕ). c < 64) (sym e) (Laws.inverse-lt x)
-
-pub log-below : (v m : ℕ) → LogOf v m → m < 63
-log-below v m g = g .below
 
 pub divides : (a b x y : ℕ) → x ≡ placeOf a → y ≡ placeOf b → a < 63 → b < 63 → (a ≡ b → ⊥) → 0 < bitXor x y % 64
 unfolding sum

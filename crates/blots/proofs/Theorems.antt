@@ -1,8 +1,8 @@
 -- What is proved of reading a line with blots, in the request's words: never a second line, one result, what is told, where it refuses, and an empty map.
 use mathlib.Core.Path.{_≡_, refl, sym, ap, ap₂, _∙_, subst}
-use mathlib.Core.Logic.{_⊎_, inl, inr, ⊎-elim}
+use mathlib.Core.Logic.{_⊎_, inl, inr}
 use mathlib.Core.List.{List, [], _∷_}
-use Prim.Native.Nat.{ℕ, zero, suc, _+_, _*_, _<_, _≤_}
+use Prim.Native.Nat.{ℕ, zero, suc, _+_, _<_, _≤_}
 use native.Mathlib.Omega.{arith}
 use lib.ListN.{length, getD, replicate}
 use Rattle.refusal.specs.Promise.{Answer}
@@ -12,9 +12,9 @@ use Rattle.refusal.proofs.Theorems.{one-result}
 use Rattle.field.specs.Field.{α, power}
 use Rattle.polynomial.specs.Sums.{weight}
 use Rattle.polynomial.proofs.Horner.{horner}
-use Rattle.code.specs.Word.{Characters, Line, number, distance, added, nowhere, marks, firstChanged, lastChanged, powerSum, listed}
+use Rattle.code.specs.Word.{Characters, Line, number, distance, added, nowhere, marks, firstChanged, lastChanged, listed}
 use Rattle.code.specs.Inside.{PowerSums}
-use Rattle.code.proofs.Words.{added-zeros, zero-get, length-added, characters-added, characters-below, added-get}
+use Rattle.code.proofs.Words.{added-zeros, zero-get, length-added, characters-added, characters-below}
 use Rattle.code.proofs.Lines.{line-long, clean-light}
 use Rattle.code.proofs.Distances.{distance-weight, distance-comm, triangle}
 use Rattle.code.proofs.Changes.{First, Last}
@@ -24,7 +24,7 @@ use Rattle.line.specs.declared.Wanted.the-variants.{Any}
 use Rattle.line.specs.declared.LineReading.{LineReading}
 use Rattle.line.specs.declared.LineReading.the-variants as R
 use Rattle.line.specs.declared.PlainReading.{PlainReading}
-use Rattle.line.specs.Promises.{readingNumbers, plainNumbers, Within, Readable, Fitting, readingTests, told, ReadAs, Reads}
+use Rattle.line.specs.Promises.{readingNumbers, plainNumbers, Within, readingTests, told, Reads}
 use Rattle.line.specs.Inside.{ErrorSums}
 use Rattle.line.proofs.Theorems.{one-line-reading, one-plain, told-first, told-last, told-unchanged}
 use Rattle.blots.specs.Promises.{Marked, blots, seen, outside, BlottedLine, Legible, blottedTests, BlottedAs, ReadsBlotted}
@@ -202,22 +202,22 @@ noBlots = replicate 63 0
 
 -- with an empty map it is line reading at radius 5: the same lines, the same tests, and so the same promise
 module _ (w : List ℕ) where
-  outside-all : (l : List ℕ) → length w ≡ 63 → length l ≡ 63 → outside (replicate 63 0) w l ≡ distance w l
+  outside-all : (l : List ℕ) → length w ≡ 63 → length l ≡ 63 → outside noBlots w l ≡ distance w l
   outside-all l lw ll =
-      ap₂ distance (seen-all (replicate 63 0) w (sym lw) (λ k _. zero-get 63 k)) (seen-all (replicate 63 0) l (sym ll) (λ k _. zero-get 63 k))
+      ap₂ distance (seen-all noBlots w (sym lw) (λ k _. zero-get 63 k)) (seen-all noBlots l (sym ll) (λ k _. zero-get 63 k))
 
-  no-blots : blots (replicate 63 0) ≡ 0
-  no-blots = weight-blank (replicate 63 0) (λ k _. zero-get 63 k)
+  no-blots : blots noBlots ≡ 0
+  no-blots = weight-blank noBlots (λ k _. zero-get 63 k)
 
   module _ (long : length w ≡ 63) where
-    as-within : (l : List ℕ) → BlottedLine (replicate 63 0) w l → Within 5 w l
+    as-within : (l : List ℕ) → BlottedLine noBlots w l → Within 5 w l
     as-within l p =
         let o = outside-all l long (line-long l (p .line)) in
         let b = no-blots in
         let h = p .near in
         record { line = p .line; near = omega arith }
 
-    as-blotted : (l : List ℕ) → Within 5 w l → BlottedLine (replicate 63 0) w l
+    as-blotted : (l : List ℕ) → Within 5 w l → BlottedLine noBlots w l
     as-blotted l p =
         let o = outside-all l long (line-long l (p .line)) in
         let b = no-blots in
@@ -225,11 +225,11 @@ module _ (w : List ℕ) where
         record { line = p .line; near = omega arith }
 
   -- the marks of an empty map
-  empty-marked : Marked (replicate 63 0)
+  empty-marked : Marked noBlots
   empty-marked k = subst (λ (v : ℕ). v < 2) (sym (zero-get 63 k)) (omega arith)
 
   module _ (old : List ℕ) where
-    five-answer : (n : ℕ) → Answer (blottedTests w (replicate 63 0) (length old)) n → Answer (readingTests w 5 Any (length old)) n
+    five-answer : (n : ℕ) → Answer (blottedTests w noBlots (length old)) n → Answer (readingTests w 5 Any (length old)) n
     five-answer n (inr a) = inr a
     five-answer n (inl (lw, inr a)) = absurd (a .0 refl)
     five-answer n (inl (lw, inl (lm, inr a))) = inl (lw, inr a)
@@ -241,7 +241,7 @@ module _ (w : List ℕ) where
         let within : Within 5 w (p .0) = as-within lw (p .0) (p .1) in
         inl (lw, inl (r, inl (c, inl (omega arith, inl (tt, inl ((p .0, within), inl ((p .0, within, tt), a)))))))
 
-    empty-answer : (n : ℕ) → Answer (readingTests w 5 Any (length old)) n → Answer (blottedTests w (replicate 63 0) (length old)) n
+    empty-answer : (n : ℕ) → Answer (readingTests w 5 Any (length old)) n → Answer (blottedTests w noBlots (length old)) n
     empty-answer n (inr a) = inr a
     empty-answer n (inl (lw, inr a)) = inl (lw, inl (refl, inr a))
     empty-answer n (inl (lw, inl (r, inr a))) = inl (lw, inl (refl, inl (r, inr a)))
@@ -253,14 +253,14 @@ module _ (w : List ℕ) where
     empty-answer n (inl (lw, inl (r, inl (c, inl (t, inl (k, inl (p, inl (q, a)))))))) =
         inl (lw, inl (refl, inl (r, inl (c, inl (empty-marked, inl ((p .0, as-blotted lw (p .0) (p .1)), a))))))
 
-    pub empty-is-five : (numbers x : List ℕ) → ReadsBlotted w (replicate 63 0) old numbers x → Reads w 5 Any old numbers x
+    pub empty-is-five : (numbers x : List ℕ) → ReadsBlotted w noBlots old numbers x → Reads w 5 Any old numbers x
     unfolding ReadsBlotted Reads
     empty-is-five [] x p = p
     empty-is-five (zero ∷ fields) x p =
-        (five-answer 0 (p .0), (as-within (passed (blottedTests w (replicate 63 0) (length old)) 0 (p .0) refl .0) x (p .1 .0), p .1 .1))
+        (five-answer 0 (p .0), (as-within (passed (blottedTests w noBlots (length old)) 0 (p .0) refl .0) x (p .1 .0), p .1 .1))
     empty-is-five (suc n ∷ fields) x p = (five-answer (suc n) (p .0), p .1)
 
-    pub five-is-empty : (numbers x : List ℕ) → Reads w 5 Any old numbers x → ReadsBlotted w (replicate 63 0) old numbers x
+    pub five-is-empty : (numbers x : List ℕ) → Reads w 5 Any old numbers x → ReadsBlotted w noBlots old numbers x
     unfolding ReadsBlotted Reads
     five-is-empty [] x p = p
     five-is-empty (zero ∷ fields) x p =

@@ -11,7 +11,7 @@ use Rattle.numbers.proofs.Totals.{total-same, total-append, total-xor}
 use Rattle.field.specs.Field.{sum, timesX, shifted, product}
 use Rattle.field.proofs.Laws
 use Rattle.lanes.specs.Lanes.{pack, lane}
-use Rattle.lanes.proofs.Laws.{lane-lt, lane-zero, lane-suc, lane-after, lane-xor, pack-same, pack-lt, low-pack, lane-pack, pack-lanes, xor-pack, and-lanes, times-pack}
+use Rattle.lanes.proofs.Laws.{lane-lt, lane-zero, lane-after, lane-xor, pack-same, pack-lt, low-pack, lane-pack, pack-lanes, xor-pack, and-lanes, times-pack}
 
 -- ---- masks
 

@@ -1,6 +1,5 @@
 -- `blots::held` meets its contract: 63 bytes are copied over 63.
 use borrow.Author.Needs.{needs}
-use mathlib.Core.Path.{refl}
 use Rattle.line.proofs.Reading.{copied}
 use Rattle.blots.proofs.held.Statement.{statement}
 use Rattle.blots.proofs.held.Tie as tie

@@ -1,10 +1,10 @@
 -- The roots of a locator, as the set bits of a number: those after a place.
-use mathlib.Core.Path.{_≡_, refl, sym, ap, _∙_, subst}
+use mathlib.Core.Path.{_≡_, refl, sym, subst}
 use mathlib.Core.Logic.{⊎-elim}
-use Prim.Native.Nat.{ℕ, zero, suc, min, _+_, _-_, _*_, _/_, _%_, _^_, _<_, _≤_}
+use Prim.Native.Nat.{ℕ, zero, suc, min, _+_, _-_, _/_, _%_, _^_, _<_}
 use native.Mathlib.Omega.{arith}
 use borrow.Author.Tests.{eq-eqb, ne-eqb}
-use Rattle.numbers.proofs.Cases.{le-or-lt, same-or-not}
+use Rattle.numbers.proofs.Cases.{same-or-not}
 use Rattle.planes.specs.Roots.{FirstFrom}
 use Rattle.planes.proofs.Theorems.{one-first}
 use Rattle.mender.specs.Values.{firstSet, rootAfter, rootAt}

@@ -1,6 +1,5 @@
 -- `blots::clearing::cleared` meets its contract: in each lane the next sum and the place times its own.
 use borrow.Author.Needs.{needs}
-use mathlib.Core.Path.{refl}
 use Rattle.blots.proofs.Restoring.{cleared-is}
 use Rattle.blots.proofs.clearing.cleared.Statement.{statement}
 use Rattle.blots.proofs.clearing.cleared.Tie as tie

@@ -26,7 +26,7 @@ use Rattle.line.specs.declared.LineReading.the-variants as R
 use Rattle.line.specs.declared.PlainReading.{PlainReading}
 use Rattle.line.specs.Promises.{readingNumbers, plainNumbers, Within, readingTests, told, Reads}
 use Rattle.line.specs.Inside.{ErrorSums}
-use Rattle.line.proofs.Theorems.{one-line-reading, one-plain, told-first, told-last, told-unchanged}
+use Rattle.line.proofs.Theorems.{one-line-reading, one-plain, one-reading, told-first, told-last, told-unchanged}
 use Rattle.blots.specs.Promises.{Marked, blots, seen, outside, BlottedLine, Legible, blottedTests, BlottedAs, ReadsBlotted}
 use Rattle.blots.proofs.Seen.{seen-added, seen-all, seen-long, weight-seen, weight-blank}
 use Rattle.blots.proofs.Finding.{line-with}
@@ -266,3 +266,7 @@ module _ (w : List ℕ) where
     five-is-empty (zero ∷ fields) x p =
         (empty-answer 0 (p .0), (as-blotted (passed (readingTests w 5 Any (length old)) 0 (p .0) refl .0) x (p .1 .0), p .1 .1))
     five-is-empty (suc n ∷ fields) x p = (empty-answer (suc n) (p .0), p .1)
+
+    -- so every answer is line reading's, and every byte of the output
+    pub empty-as-line : (r s : LineReading) (x y : List ℕ) → ReadsBlotted w noBlots old (readingNumbers r) x → Reads w 5 Any old (readingNumbers s) y → (r ≡ s) × (x ≡ y)
+    empty-as-line r s x y p = one-reading w 5 Any old r s x y (empty-is-five (readingNumbers r) x p)

@@ -24,8 +24,7 @@ use Rattle.code.proofs.Sums.{powerSum-added}
 use Rattle.mender.specs.declared.Mended.{Mended}
 use Rattle.mender.specs.Mender.{Fits, MendsTo, Mends, Word, Nearest, HasSums}
 use Rattle.mender.specs.Inside.{mixed, coef, valueOf, ValuedFrom, Nothing}
-use Rattle.mender.specs.Found.{SumsTo}
-use Rattle.mender.specs.Found.{Repaired}
+use Rattle.mender.specs.Found.{SumsTo, Repaired}
 use Rattle.mender.proofs.Fitting.{Least, combines-more, value-is}
 
 pub true-false : true ≡ false → ⊥

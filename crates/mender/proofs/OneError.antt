@@ -154,7 +154,6 @@ pub ratio-is : (u v m n r : ℕ) → (u < 64) × (v < 64) × (0 < v) → (u ≡ 
 ratio-is u v m n r b d g h e =
     let iu : power α m ≡ u = g .is (λ z. d (sym (mod-eq-of-lt (b .0)) ∙ z)) ∙ mod-eq-of-lt (b .0) in
     let iv : power α n ≡ v = h .is (λ z. let q : v % 64 ≡ v = mod-eq-of-lt (b .1) in let p = b .2 in omega arith) ∙ mod-eq-of-lt (b .1) in
-    let x : ℕ = power α (m + 63 - n) in
     -- times the divisor it is the dividend
     let back : product (power α (m + 63 - n)) v ≡ u =
     ap (product (power α (m + 63 - n))) (sym iv) ∙ sym (Laws.power-add α (m + 63 - n) n) ∙ ap (power α) (whole m n (h .below)) ∙ Laws.power-add α m 63

@@ -16,7 +16,7 @@ use Rattle.lanes.specs.Lanes.{lane}
 use Rattle.lanes.proofs.Laws.{lane-lt, lane-zero, lane-suc, lane-after, lane-pack, pack-lanes}
 use Rattle.polynomial.specs.Sums.{weight, nonzero}
 use Rattle.polynomial.specs.Polynomial.{polyAt}
-use Rattle.planes.specs.Roots.{RootsOf}
+use Rattle.planes.specs.Roots.{RootsOf, FirstFrom}
 use Rattle.planes.proofs.Theorems.{set-root, clear-other}
 use Rattle.code.specs.Inside.{Ends}
 use Rattle.code.specs.Word.{listed}
@@ -30,7 +30,6 @@ use Rattle.mender.specs.declared.values.Pattern.{Pattern}
 use Rattle.mender.specs.declared.values.Ahead.{Ahead}
 use Rattle.mender.specs.Inside.{valueOf}
 use Rattle.mender.specs.Rows.{Coefficients}
-use Rattle.planes.specs.Roots.{FirstFrom}
 use Rattle.mender.specs.Values.{Patterned, rootAfter, rootAt, numeratorAt, denominatorAt, numeratorOf, denominatorOf, quotientAt, FractionIn, QuotientsAhead, QuotientNext, Placed, lastOf, lanesOf, Kills, inverseOrNone}
 use Rattle.mender.proofs.OneError.{weight-set, weight-nothing, nonzero-pos}
 use Rattle.mender.proofs.values.Fractions.{window-is, slope-is, value-is-quotient}

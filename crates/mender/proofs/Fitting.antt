@@ -1,25 +1,23 @@
 -- What the sums say of a word that fits them: the first row left is 0 at the places of its errors, and their values come out of it.
 use mathlib.Core.Path.{_≡_, refl, sym, ap, ap₂, _∙_, subst}
 use mathlib.Core.Logic.{_⊎_, inl, inr, ⊎-elim}
-use mathlib.Core.List.{List, [], _∷_}
+use mathlib.Core.List.{List, []}
 use Prim.Native.Nat.{ℕ, zero, suc, _+_, _-_, _<_, _≤_}
-use native.Mathlib.Nat.{add-zero, add-suc, suc-add, le-of-eq, not-suc-le-zero, le-of-suc-le-suc}
+use native.Mathlib.Nat.{le-of-eq}
 use native.Mathlib.Omega.{arith}
 use lib.ListN.{getD, length, drop, List·getD-eq-default}
 use lib.Seq.{drop-cons}
 use borrow.Author.Tests.{eq-eqb, ne-eqb}
 use Rattle.numbers.proofs.Cases.{le-or-lt, same-or-not, pos-of-not-zero}
-use Rattle.numbers.specs.Total.{total}
 use Rattle.field.specs.Field.{sum, product, α, power}
 use Rattle.field.specs.Inside.{inverse}
 use Rattle.field.proofs.Laws
 use Rattle.numbers.proofs.Totals.{total-none}
-use Rattle.field.proofs.Totals.{total-front}
 use Rattle.polynomial.specs.Sums.{moment, Places, Values, Zeros}
 use Rattle.polynomial.specs.Polynomial.{polyAt, combined, weighted, over, locator}
 use Rattle.polynomial.proofs.Places.{place-pos, place-lt}
 use Rattle.polynomial.proofs.Vandermonde.{zeros-get, zeros-moment}
-use Rattle.polynomial.proofs.Combining.{weighted-get}
+use Rattle.polynomial.proofs.Combining.{weighted-get, combine-is}
 use Rattle.polynomial.proofs.Division.{over-get, length-over, poly-past, poly-small, over-small}
 use Rattle.polynomial.proofs.Locator.{locator-elements}
 use Rattle.polynomial.proofs.Theorems.{combining, zero-at-places, Locates, a-locator, one-value-left}
@@ -57,20 +55,6 @@ row-least s e n m r a h one before =
           ⊎-elim (λ (b : r ≤ i). ap (λ (t : ℕ). product t (at m i k)) (past i b) ∙ Laws.zero-product (at m i k))
           (λ (b : i < r). ap (product (q i)) (before i k b) ∙ Laws.product-zero (q i)) (le-or-lt r i));
     }
-
--- a window combined with q is the sums combined with q, where they agree wherever q is not 0
-combine-is : (n : ℕ) (q : List ℕ) (t : ℕ → ℕ) (j : ℕ) (vs xs : List ℕ) → length q ≤ n
-    → ((k : ℕ) → product (getD q k 0) (t k) ≡ product (getD q k 0) (moment (j + k) vs xs))
-    → total n (λ k. product (getD q k 0) (t k)) ≡ combined q j vs xs
-unfolding combined
-combine-is zero [] t j vs xs l h = total-none 0 (λ k. product 0 (t k)) (λ k b. Laws.zero-product (t k))
-combine-is (suc n) [] t j vs xs l h = total-none (suc n) (λ k. product 0 (t k)) (λ k b. Laws.zero-product (t k))
-combine-is zero (p ∷ ps) t j vs xs l h = absurd (not-suc-le-zero l)
-combine-is (suc n) (p ∷ ps) t j vs xs l h =
-    total-front n (λ k. product (getD (p ∷ ps) k 0) (t k))
-    ∙ ap₂ sum (h 0 ∙ ap (λ (i : ℕ). product p (moment i vs xs)) (add-zero j))
-    (combine-is n ps (λ k. t (suc k)) (suc j) vs xs (le-of-suc-le-suc l)
-    (λ k. h (suc k) ∙ ap (λ (i : ℕ). product (getD ps k 0) (moment i vs xs)) (add-suc j k ∙ sym (suc-add j k))))
 
 -- v q x^58 times x^5, x being a place, is v q
 back-to-value : (v q x : ℕ) → product (product (product v q) (power x 58)) (power x 5) ≡ product (product v q) (power x 63)

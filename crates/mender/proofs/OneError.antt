@@ -3,14 +3,13 @@ use mathlib.Core.Path.{_≡_, refl, sym, ap, ap₂, _∙_, subst}
 use mathlib.Core.Bool.{true, false}
 use mathlib.Core.List.{List, [], _∷_}
 use mathlib.Core.Logic.{⊎-elim}
-use Prim.Native.Nat.{ℕ, zero, suc, _+_, _-_, _*_, _/_, _%_, _<_, _≤_}
+use Prim.Native.Nat.{ℕ, zero, suc, _+_, _-_, _*_, _/_, _%_, _<_}
 use native.Mathlib.Nat.{add-comm, mod-eq-of-lt, zero-add, add-assoc, le-of-eq}
 use native.Mathlib.Omega.{arith}
 use lib.ListN.{length, getD, replicate, set, length-set}
 use lib.Seq.{getD-set-same, getD-set-other}
 use Rattle.numbers.proofs.Cases.{pos-of-not-zero, same-or-not}
 use Rattle.field.specs.Field.{sum, product, α, power}
-use Rattle.field.specs.Inside.{inverse}
 use Rattle.field.proofs.Laws
 use Rattle.numbers.proofs.Totals.{total-none}
 use Rattle.lanes.specs.Lanes.{pack, lane}
@@ -139,35 +138,8 @@ after-first h =
     ∙ sym (pack-last 9 (λ k. getD (eleven h) (suc k) 0))
 
 -- S_0 that is not 0 may be divided by
-pub sum-divides : (a b y : ℕ) → y ≡ a % 64 → (y ≡ 0 → ⊥) → (b % 64 < 64) × (y < 64) × (0 < y)
-sum-divides a b y e d = (omega arith, omega arith, pos-of-not-zero y d)
-
--- ---- a quotient by logarithms
-
-pub ratio-none : (u v : ℕ) → u ≡ 0 → 0 ≡ product u (inverse v)
-ratio-none u v z = sym (ap (λ (t : ℕ). product t (inverse v)) z ∙ Laws.zero-product (inverse v))
-
-pub ratio-logs : (u v m n : ℕ) → LogOf u m → LogOf v n → (m + 63 < 256) × (n ≤ m + 63)
-ratio-logs u v m n g h = let a = g .below in let b = h .below in (omega arith, omega arith)
-
-pub ratio-is : (u v m n r : ℕ) → (u < 64) × (v < 64) × (0 < v) → (u ≡ 0 → ⊥) → LogOf u m → LogOf v n → r ≡ power α ((m + 63 - n) % 63 % 64) → r ≡ product u (inverse v)
-ratio-is u v m n r b d g h e =
-    let iu : power α m ≡ u = g .is (λ z. d (sym (mod-eq-of-lt (b .0)) ∙ z)) ∙ mod-eq-of-lt (b .0) in
-    let iv : power α n ≡ v = h .is (λ z. let q : v % 64 ≡ v = mod-eq-of-lt (b .1) in let p = b .2 in omega arith) ∙ mod-eq-of-lt (b .1) in
-    -- times the divisor it is the dividend
-    let back : product (power α (m + 63 - n)) v ≡ u =
-    ap (product (power α (m + 63 - n))) (sym iv) ∙ sym (Laws.power-add α (m + 63 - n) n) ∙ ap (power α) (whole m n (h .below)) ∙ Laws.power-add α m 63
-    ∙ ap₂ product iu Laws.power-period ∙ Laws.product-one u (b .0)
-    in
-    e ∙ ap (power α) (low (m + 63 - n)) ∙ Laws.power-mod (m + 63 - n)
-    ∙ sym (ap (λ (t : ℕ). product t (inverse v)) (sym back) ∙ Laws.product-assoc (power α (m + 63 - n)) v (inverse v)
-    ∙ ap (product (power α (m + 63 - n))) (Laws.inverse-right v (b .2) (b .1)) ∙ Laws.product-one (power α (m + 63 - n)) (Laws.power-lt α (m + 63 - n)))
-  where
-    low : (k : ℕ) → k % 63 % 64 ≡ k % 63
-    low k = omega arith
-
-    whole : (m n : ℕ) → n < 63 → m + 63 - n + n ≡ m + 63
-    whole m n l = omega arith
+pub sum-divides : (a y : ℕ) → y ≡ a % 64 → (y ≡ 0 → ⊥) → 0 < y % 64
+sum-divides a y e d = Laws.may-divide y (omega arith) d
 
 pub one-error : (h : Sums) (y z i x p l : ℕ) → y ≡ h .first / 1073741824 % 64 → (y ≡ 0 → ⊥) → x ≡ product z i
     → p ≡ pack 10 (λ k. product (lane (h .first) k) x) → p ≡ h .first / 64 % 18014398509481984 + h .last % 64 * 18014398509481984

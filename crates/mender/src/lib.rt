@@ -4,8 +4,6 @@ ghost use mathlib.Core.Bool.{false};
 ghost use Prim.Native.Nat.{min, _/_, _<_, _≤_};
 ghost use lib.ListN.{length};
 ghost use Rattle.refusal.specs.Promise.{Tells};
-ghost use Rattle.field.specs.Field.{product};
-ghost use Rattle.field.specs.Inside.{inverse};
 ghost use Rattle.code.specs.Word.{added};
 ghost use Rattle.sums.specs.Held.{eleven};
 ghost use Rattle.mender.specs.Mender.{MendsTo, Mends, NearestWith, NearestClean};
@@ -312,7 +310,7 @@ fn lone_error(s: Sums) -> Single
     if value == 0 {
         return no_single();
     }
-    let place = ratio((s.first / SIX_LANES % 64) as u8, value);
+    let place = places::over((s.first / SIX_LANES % 64) as u8, value);
     let after = s.first / 64 % NINE_LANES + (s.last % 64) as u64 * NINE_LANES;
     let turned = lanes::scale(s.first, place);
     if turned != after {
@@ -323,17 +321,6 @@ fn lone_error(s: Sums) -> Single
         address: 62 - places::log_of(place) as usize,
         value: value,
     }
-}
-
-// The quotient of two elements, the second not 0, by logarithms.
-fn ratio(u: u8, v: u8) -> u8
-    requires { ⌜ (u < 64) × (v < 64) × (0 < v) ⌝ }
-    ensures { λ r. ⌜ r ≡ product u (inverse v) ⌝ }
-{
-    if u == 0 {
-        return 0;
-    }
-    places::power_of((places::log_of(u) + 63 - places::log_of(v)) % 63)
 }
 
 fn no_single() -> Single

@@ -1,3 +1,4 @@
--- An entry of each table, and that each promise allows one answer.
+-- An entry of each table, arithmetic by logarithms, and that each promise allows one answer.
 pub mod Entries
+pub mod Arithmetic
 pub mod Theorems

@@ -1,7 +1,8 @@
-// Powers of α and logarithms, each by a table.
+// Powers of α and logarithms, each by a table, and products and quotients by them.
 ghost use mathlib.Core.Path.{_≡_};
-ghost use Prim.Native.Nat.{_%_};
-ghost use Rattle.field.specs.Field.{α, power};
+ghost use Prim.Native.Nat.{_%_, _<_};
+ghost use Rattle.field.specs.Field.{product, α, power};
+ghost use Rattle.field.specs.Inside.{inverse};
 ghost use Rattle.places.specs.Logs.{LogOf};
 
 // α to the power of the low six bits.
@@ -146,4 +147,28 @@ pub fn log_of(x: u8) -> u8
         62 => 57,
         _ => 58,
     }
+}
+
+// The product of any two bytes, by adding logarithms modulo 63: of each the low six bits count.
+pub fn times(u: u8, v: u8) -> u8
+    ensures { λ r. ⌜ r ≡ product u v ⌝ }
+{
+    if u % 64 == 0 {
+        return 0;
+    }
+    if v % 64 == 0 {
+        return 0;
+    }
+    power_of((log_of(u) + log_of(v)) % 63)
+}
+
+// The quotient of any byte by one that is not 0, by subtracting logarithms modulo 63: of each the low six bits count.
+pub fn over(u: u8, v: u8) -> u8
+    requires { ⌜ 0 < v % 64 ⌝ }
+    ensures { λ r. ⌜ r ≡ product u (inverse v) ⌝ }
+{
+    if u % 64 == 0 {
+        return 0;
+    }
+    power_of((log_of(u) + 63 - log_of(v)) % 63)
 }

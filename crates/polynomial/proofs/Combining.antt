@@ -1,12 +1,15 @@
--- Combining sums with a polynomial is scaling the values by it; what combines enough sums to 0 is 0 at the place of each value that is not 0.
+-- Combining sums with a polynomial is scaling the values by it, and so is combining numbers that agree with them; what combines enough sums to 0 is 0 at the place of each value that is not 0.
 use mathlib.Core.Path.{_≡_, refl, sym, ap, ap₂, _∙_}
 use mathlib.Core.List.{List, [], _∷_}
 use Prim.Native.Nat.{ℕ, zero, suc, _+_, _<_, _≤_}
-use native.Mathlib.Nat.{le-trans, add-le-add}
+use native.Mathlib.Nat.{le-trans, add-le-add, add-zero, add-suc, suc-add, not-suc-le-zero, le-of-suc-le-suc}
 use native.Mathlib.Omega.{arith}
-use lib.ListN.{getD}
+use lib.ListN.{length, getD}
+use Rattle.numbers.specs.Total.{total}
+use Rattle.numbers.proofs.Totals.{total-none}
 use Rattle.field.specs.Field.{sum, product, power}
 use Rattle.field.proofs.Laws
+use Rattle.field.proofs.Totals.{total-front}
 use Rattle.polynomial.specs.Sums.{moment, weight, Places, Values, Zeros}
 use Rattle.polynomial.specs.Polynomial.{polyAt, combined, weighted}
 use Rattle.polynomial.proofs.Vandermonde.{nonzero-product, vandermonde}
@@ -67,3 +70,17 @@ weighted-get ps [] (x ∷ xs) f a = absurd f
 weighted-get ps (v ∷ vs) [] f a = absurd f
 weighted-get ps (v ∷ vs) (x ∷ xs) f zero = refl
 weighted-get ps (v ∷ vs) (x ∷ xs) f (suc a) = weighted-get ps vs xs (f .1) a
+
+-- numbers combined with q are the sums combined with q, where they agree wherever q is not 0
+pub combine-is : (n : ℕ) (q : List ℕ) (t : ℕ → ℕ) (j : ℕ) (vs xs : List ℕ) → length q ≤ n
+    → ((k : ℕ) → product (getD q k 0) (t k) ≡ product (getD q k 0) (moment (j + k) vs xs))
+    → total n (λ k. product (getD q k 0) (t k)) ≡ combined q j vs xs
+unfolding combined
+combine-is zero [] t j vs xs l h = total-none 0 (λ k. product 0 (t k)) (λ k b. Laws.zero-product (t k))
+combine-is (suc n) [] t j vs xs l h = total-none (suc n) (λ k. product 0 (t k)) (λ k b. Laws.zero-product (t k))
+combine-is zero (p ∷ ps) t j vs xs l h = absurd (not-suc-le-zero l)
+combine-is (suc n) (p ∷ ps) t j vs xs l h =
+    total-front n (λ k. product (getD (p ∷ ps) k 0) (t k))
+    ∙ ap₂ sum (h 0 ∙ ap (λ (i : ℕ). product p (moment i vs xs)) (add-zero j))
+    (combine-is n ps (λ k. t (suc k)) (suc j) vs xs (le-of-suc-le-suc l)
+    (λ k. h (suc k) ∙ ap (λ (i : ℕ). product (getD ps k 0) (moment i vs xs)) (add-suc j k ∙ sym (suc-add j k))))

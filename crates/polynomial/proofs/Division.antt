@@ -66,7 +66,8 @@ over-zero ps r y el hr hy d root z =
     (Laws.sum-lt y r hy hr)
     (Laws.product-comm q (sum y r) ∙ sym (Laws.sum-zero (product (sum y r) q)) ∙ ap (sum (product (sum y r) q)) (sym root) ∙ sym (over-at ps r y) ∙ z)
 
-over-zeros : (ps : List ℕ) (r : ℕ) (xs : List ℕ) → Elements ps → r < 64 → Fresh r xs → Places xs → polyAt ps r ≡ 0 → ZeroAt ps xs → ZeroAt (over ps r) xs
+-- and so at all of these
+pub over-zeros : (ps : List ℕ) (r : ℕ) (xs : List ℕ) → Elements ps → r < 64 → Fresh r xs → Places xs → polyAt ps r ≡ 0 → ZeroAt ps xs → ZeroAt (over ps r) xs
 over-zeros ps r [] el hr f pl root z = tt
 over-zeros ps r (y ∷ ys) el hr f pl root z =
     (over-zero ps r y el hr (pl .1) (f .0) root (z .0), over-zeros ps r ys el hr (f .1) (pl .3) root (z .1))

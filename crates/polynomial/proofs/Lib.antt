@@ -5,5 +5,7 @@ pub mod Vandermonde
 pub mod Combining
 pub mod Division
 pub mod Locator
+pub mod Splitting
+pub mod Supported
 pub mod Values
 pub mod Theorems

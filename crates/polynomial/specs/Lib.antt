@@ -1,3 +1,4 @@
--- Sums of values at places, and polynomials over the field.
+-- Sums of values at places, polynomials over the field, and their roots.
 pub mod Sums
 pub mod Polynomial
+pub mod Roots

@@ -8,15 +8,15 @@ use Rattle.mender.proofs.lone_error.Tie as tie
 returns : tie.Need-returns
 returns c = search (no-error, needs)
 
-ratio-requires : tie.Need-ratio-requires
-ratio-requires c κs = search (sum-divides, needs)
+over-requires : tie.Need-over-requires
+over-requires c κs = search (sum-divides, needs)
 
 returns-2 : tie.Need-returns-2
 returns-2 c = search (no-error, needs)
 
 returns-3 : tie.Need-returns-3
 returns-3 c =
-    one-error _ _ _ _ _ _ _ refl (c .before .before .before .before .before .before .before .if1 .left) (c .before .before .before .before .before .ratio .ensures)
+    one-error _ _ _ _ _ _ _ refl (c .before .before .before .before .before .before .before .if1 .left) (c .before .before .before .before .before .over .ensures)
     (c .before .before .scale .ensures) (c .before .if2 .left) (c .log-of .ensures)
 
 pub lone-error-spec : {M : Type 1} → statement M
@@ -27,7 +27,7 @@ lone-error-spec =
     (λ c κs. search needs)
     returns
     (λ c. search needs)
-    ratio-requires
+    over-requires
     (λ c. search needs)
     (λ c. search needs)
     (λ c. search needs)

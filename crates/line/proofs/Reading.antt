@@ -1,6 +1,7 @@
--- The ways out of reading a line, a test at a time, in the paper's order.
+-- The ways out of reading a line: the tests before in the paper's order, what is found, and the answer after.
 use mathlib.Core.Path.{_≡_, refl, sym, ap, ap₂, _∙_, subst}
 use mathlib.Core.Bool.{Bool, true, false}
+use mathlib.Core.Logic.{_⊎_, inl, ⊎-elim}
 use mathlib.Core.List.{List, [], _∷_, _++_, append-nil}
 use Prim.Native.Nat.{ℕ, min, _+_, _*_, _%_, _<_, _≤_}
 use native.Mathlib.Nat.{le-of-eq, mod-eq-of-lt}
@@ -9,9 +10,13 @@ use lib.Dec.{leb, eqb}
 use lib.ListN.{length, getD, take, drop, replicate}
 use lib.Seq.{ext-getD, length-take-le, take-all, drop-length}
 use borrow.Author.Tests.{leb-true, leb-false, eqb-true, eqb-false}
+use Rattle.numbers.proofs.Cases.{same-or-not}
+use Rattle.refusal.specs.declared.Refusal.{Refusal}
+use Rattle.refusal.specs.declared.Refusal.the-variants.{NoLine, OtherNumber}
+use Rattle.refusal.specs.Number.{numberOf}
 use Rattle.refusal.specs.Promise.{Test, Tells}
 use Rattle.refusal.proofs.Laws.{tells-yes}
-use Rattle.refusal.proofs.Ladder.{Yes, No, Met, FailsAt, answerAt, refuses, succeeds}
+use Rattle.refusal.proofs.Ladder.{Yes, No, Met, FailsAt, answerAt, _then_, given, denied, fails-answer, refuses, refuses-too, succeeds}
 use Rattle.field.specs.Field.{sum}
 use Rattle.field.proofs.Laws
 use Rattle.code.specs.Word.{Characters, Line, marks, number, distance, nowhere, added}
@@ -26,12 +31,14 @@ use Rattle.sums.proofs.Holding.{eleven-long}
 use Rattle.mender.specs.declared.Mended.{Mended}
 use Rattle.mender.specs.Mender.{HasSums, Nearest}
 use Rattle.mender.specs.Found.{Clear, Repairs, Without}
-use Rattle.mender.proofs.Finding.{nearest-as}
+use Rattle.mender.proofs.Finding.{true-false, nearest-as}
 use Rattle.mender.proofs.Repairing.{repairs-none, near}
 use Rattle.line.specs.declared.Wanted.{Wanted}
 use Rattle.line.specs.declared.Wanted.the-variants as W
+use Rattle.line.specs.declared.Verdict.{Verdict}
+use Rattle.line.specs.declared.Verdict.the-variants as Verdicts
 use Rattle.line.specs.Promises.{Within, Readable, Possible, Carries, Fitting, readingTests, told, ReadAs, Reads}
-use Rattle.line.specs.Inside.{ErrorSums, IsWanted, Writes}
+use Rattle.line.specs.Inside.{Fit, AnswersAs, TestedAs, ErrorSums, lowNumber, IsWanted, Writes, Answers}
 
 -- ---- the nearest line: a line is a word with the power sums of the marks
 
@@ -98,6 +105,10 @@ wanted-of : (wanted : Wanted) (l : List ℕ) (n : ℕ) → n ≡ number l → Ca
 wanted-of W.Any l n e c = tt
 wanted-of (W.Number m) l n e c = e ∙ c
 
+wanted-or-not : (wanted : Wanted) (n : ℕ) → IsWanted wanted n ⊎ (IsWanted wanted n → ⊥)
+wanted-or-not W.Any n = inl tt
+wanted-or-not (W.Number m) n = same-or-not n m
+
 -- ---- the tests
 
 module _ (w : List ℕ) (t : ℕ) (wanted : Wanted) (old : List ℕ) where
@@ -112,13 +123,39 @@ module _ (w : List ℕ) (t : ℕ) (wanted : Wanted) (old : List ℕ) where
   unfolding Reads
   read = succeeds (ReadAs t w) 4 old tests
 
+-- ---- the tests before
+
+module _ (w : List ℕ) (t : ℕ) (wanted : Wanted) (room : ℕ) where
+  pub passed : length w ≡ 63 → room ≡ 63 → Yes (Characters w) → t ≤ 5 → Yes (Possible wanted) → Fit w t wanted room
+  passed long enough characters near possible =
+      record { long = long; enough = enough; characters = characters .is; near = near; possible = possible .is }
+
+  pub failed : (n : ℕ) → FailsAt n (readingTests w t wanted room) → AnswersAs w t wanted room (answerAt n (readingTests w t wanted room))
+  unfolding AnswersAs
+  failed = fails-answer (readingTests w t wanted room)
+
+pub both-long : (w : List ℕ) (t : ℕ) (wanted : Wanted) (old : List ℕ) → Fit w t wanted (length old) → (length w ≡ 63) × (length old ≡ 63)
+both-long w t wanted old fit = (fit .long, fit .enough)
+
+-- what the tests left
+pub told-passed : (w : List ℕ) (t : ℕ) (wanted : Wanted) (room : ℕ) (v : Verdict) → v ≡ Verdicts.Passed → TestedAs w t wanted room v → Fit w t wanted room
+told-passed w t wanted room v e = subst (TestedAs w t wanted room) e
+
+-- a reading refuses as its tests did
+pub refused-before : (w : List ℕ) (t : ℕ) (wanted : Wanted) (old : List ℕ) (v : Verdict) (why : Refusal) → v ≡ Verdicts.Refused why → TestedAs w t wanted (length old) v
+    → Reads w t wanted old (numberOf why ∷ 0 ∷ 0 ∷ 0 ∷ 0 ∷ []) old
+unfolding Reads AnswersAs
+refused-before w t wanted old v why e a =
+    refuses-too (ReadAs t w) 4 old (readingTests w t wanted (length old)) why (subst (TestedAs w t wanted (length old)) e a)
+
 -- ---- what is found: no line, another one than is wanted, or the line
 
-module _ (w : List ℕ) (t : ℕ) (m : Mended) (nearest : Nearest Line w (min t 5) m) where
-  none : length w ≡ 63 → Yes (Characters w) → t ≤ 5 → m .found ≡ false → No (Readable t w)
-  none long characters small q = record {
-    not = λ r. let g = r .1 .near in nearest .none q (record { long = long; characters = characters .is }) (r .0) (r .1 .line) (omega arith);
-  }
+module _ (w : List ℕ) (t : ℕ) (wanted : Wanted) (old : List ℕ) (fit : Fit w t wanted (length old)) (m : Mended) (nearest : Nearest Line w (min t 5) m) where
+  none : m .found ≡ false → Reads w t wanted old (answerAt 5 (tests w t wanted old) ∷ 0 ∷ 0 ∷ 0 ∷ 0 ∷ []) old
+  none q =
+      refused w t wanted old 5
+      (fit .long then fit .enough then fit .characters then fit .near then fit .possible then
+      denied (λ (r : Readable t w). let g = r .1 .near in let s = fit .near in nearest .none q (record { long = fit .long; characters = fit .characters }) (r .0) (r .1 .line) (omega arith)))
 
   module _ (here : m .found ≡ true) where
     within : Within t w (m .word)
@@ -127,32 +164,45 @@ module _ (w : List ℕ) (t : ℕ) (m : Mended) (nearest : Nearest Line w (min t 
         let g = nearest .within here in
         record { line = nearest .is here; near = omega arith }
 
-    readable : Yes (Readable t w)
-    readable = record { is = (m .word, within) }
+    number-here : lowNumber (m .word) ≡ number (m .word)
+    number-here =
+        let c = line-characters (m .word) (nearest .is here) in
+        ap₂ (λ (x y : ℕ). x * 64 + y) (mod-eq-of-lt (c 50)) (mod-eq-of-lt (c 51))
 
-    module _ (n : ℕ) (is : n ≡ getD (m .word) 50 0 % 64 * 64 + getD (m .word) 51 0 % 64) where
-      number-here : n ≡ number (m .word)
-      number-here =
-          let c = line-characters (m .word) (nearest .is here) in
-          is ∙ ap₂ (λ (x y : ℕ). x * 64 + y) (mod-eq-of-lt (c 50)) (mod-eq-of-lt (c 51))
+    told-here : lowNumber (m .word) ∷ m .weight ∷ m .first ∷ m .last ∷ [] ≡ told w (m .word)
+    told-here =
+        ap₂ (λ (x y : ℕ). x ∷ y ∷ m .first ∷ m .last ∷ []) number-here (nearest .apart here)
+        ∙ ap₂ (λ (x y : ℕ). number (m .word) ∷ distance w (m .word) ∷ x ∷ y ∷ []) (nearest .ends here .from) (nearest .ends here .to)
 
-      told-here : n ∷ m .weight ∷ m .first ∷ m .last ∷ [] ≡ told w (m .word)
-      told-here =
-          ap₂ (λ (x y : ℕ). x ∷ y ∷ m .first ∷ m .last ∷ []) number-here (nearest .apart here)
-          ∙ ap₂ (λ (x y : ℕ). number (m .word) ∷ distance w (m .word) ∷ x ∷ y ∷ []) (nearest .ends here .from) (nearest .ends here .to)
+    other : (IsWanted wanted (lowNumber (m .word)) → ⊥) → Reads w t wanted old (answerAt 6 (tests w t wanted old) ∷ 0 ∷ 0 ∷ 0 ∷ 0 ∷ []) old
+    other d =
+        refused w t wanted old 6
+        (fit .long then fit .enough then fit .characters then fit .near then fit .possible then (m .word, within) then
+        denied (λ (r : Fitting t w wanted).
+        let same : m .word ≡ r .0 = one-line-near w (m .word) (r .0) t (fit .long) (fit .near) (within .line) (r .1 .line) (within .near) (r .1 .near) in
+        d (wanted-of wanted (r .0) (lowNumber (m .word)) (number-here ∙ ap number same) (r .2))))
 
-      other : (wanted : Wanted) → length w ≡ 63 → t ≤ 5 → No (IsWanted wanted n) → No (Fitting t w wanted)
-      other wanted long small d = record {
-        not = λ r.
-            let same : m .word ≡ r .0 = one-line-near w (m .word) (r .0) t long small (within .line) (r .1 .line) (within .near) (r .1 .near) in
-            d .not (wanted-of wanted (r .0) n (number-here ∙ ap number same) (r .2));
-      }
+    the-line : IsWanted wanted (lowNumber (m .word)) → Reads w t wanted old (0 ∷ lowNumber (m .word) ∷ m .weight ∷ m .first ∷ m .last ∷ []) (m .word)
+    the-line i =
+        read w t wanted old (lowNumber (m .word) ∷ m .weight ∷ m .first ∷ m .last ∷ []) (m .word)
+        (fit .long then fit .enough then fit .characters then fit .near then fit .possible then (m .word, within)
+        then (m .word, within, carries-of wanted (m .word) (lowNumber (m .word)) number-here i) then tt)
+        (within, told-here)
 
-      fitting : (wanted : Wanted) → Yes (IsWanted wanted n) → Yes (Fitting t w wanted)
-      fitting wanted i = record { is = (m .word, within, carries-of wanted (m .word) n number-here (i .is)) }
+  -- the answer for the nearest line is that of reading
+  pub answered-reads : (numbers new : List ℕ) → Answers m wanted old numbers new → Reads w t wanted old numbers new
+  answered-reads numbers new a = pick (m .found) refl
+    where
+      taken : (xs ys : List ℕ) → numbers ≡ xs → new ≡ ys → Reads w t wanted old xs ys → Reads w t wanted old numbers new
+      taken xs ys e f r = subst (λ (x : List ℕ). Reads w t wanted old x new) (sym e) (subst (Reads w t wanted old xs) (sym f) r)
 
-      the-line : (new : List ℕ) → new ≡ m .word → ReadAs t w (n ∷ m .weight ∷ m .first ∷ m .last ∷ []) new
-      the-line new output = subst (ReadAs t w (n ∷ m .weight ∷ m .first ∷ m .last ∷ [])) (sym output) (within, told-here)
+      pick : (b : Bool) → m .found ≡ b → Reads w t wanted old numbers new
+      pick false q = let (e, f) = a .none q in taken _ old e f (none q)
+      pick true q =
+          ⊎-elim
+          (λ (i : IsWanted wanted (lowNumber (m .word))). let (e, f) = a .line q i in taken _ (m .word) e (f .over (fit .enough)) (the-line q i))
+          (λ (d : IsWanted wanted (lowNumber (m .word)) → ⊥). let (e, f) = a .other q d in taken _ old e f (other q d))
+          (wanted-or-not wanted (lowNumber (m .word)))
 
 -- ---- a word that is a line itself, where the sums of its errors are all 0; and one without the errors that have these sums
 
@@ -160,51 +210,59 @@ module _ (w : List ℕ) (t : ℕ) (m : Mended) (nearest : Nearest Line w (min t 
 abbrev unmended : List ℕ → Mended
 unmended w = record { found = true; weight = 0; first = nowhere; last = nowhere; word = w }
 
-pub all-long : (w : List ℕ) → length w ≡ 63 → 63 ≡ length (take 63 w)
-all-long w long = sym (length-take-le 63 w (le-of-eq (sym long)))
+pub all-long : (w : List ℕ) (t : ℕ) (wanted : Wanted) (room : ℕ) → Fit w t wanted room → 63 ≡ length (take 63 w)
+all-long w t wanted room fit = sym (length-take-le 63 w (le-of-eq (sym (fit .long))))
 
-module _ (w d : List ℕ) (t : ℕ) (es : ErrorSums w d) (long : length w ≡ 63) (characters : Yes (Characters w)) where
+module _ (w d : List ℕ) (t : ℕ) (wanted : Wanted) (old : List ℕ) (fit : Fit w t wanted (length old)) (es : ErrorSums w d) where
   module _ (b : Bool) (clear : Tells (Clear d) b) (q : b ≡ true) where
     itself : Nearest Line w (min t 5) (unmended w)
     itself =
-        repaired-line w d t es long characters (unmended w)
-        (repairs-none d w w (min t 5) b long clear q (unchanged w long))
+        repaired-line w d t es (fit .long) (given (fit .characters)) (unmended w)
+        (repairs-none d w w (min t 5) b (fit .long) clear q (unchanged w (fit .long)))
 
-    pub itself-readable : Yes (Readable t w)
-    itself-readable = readable w t (unmended w) itself refl
+    module _ (n : ℕ) (is : n ≡ lowNumber w) where
+      pub itself-other : No (IsWanted wanted n) → Reads w t wanted old (answerAt 6 (tests w t wanted old) ∷ 0 ∷ 0 ∷ 0 ∷ 0 ∷ []) old
+      itself-other d = other w t wanted old fit (unmended w) itself refl (subst (λ (k : ℕ). IsWanted wanted k → ⊥) is (d .not))
 
-    module _ (n : ℕ) (is : n ≡ getD w 50 0 % 64 * 64 + getD w 51 0 % 64) where
-      pub itself-other : (wanted : Wanted) → t ≤ 5 → No (IsWanted wanted n) → No (Fitting t w wanted)
-      itself-other wanted = other w t (unmended w) itself refl n is wanted long
+      pub itself-read : Yes (IsWanted wanted n) → (new : List ℕ) → new ≡ w → Reads w t wanted old (0 ∷ n ∷ 0 ∷ 63 ∷ 63 ∷ []) new
+      itself-read i new e =
+          subst (Reads w t wanted old (0 ∷ n ∷ 0 ∷ 63 ∷ 63 ∷ [])) (sym e)
+          (subst (λ (k : ℕ). Reads w t wanted old (0 ∷ k ∷ 0 ∷ 63 ∷ 63 ∷ []) w) (sym is)
+          (the-line w t wanted old fit (unmended w) itself refl (subst (IsWanted wanted) is (i .is))))
 
-      pub itself-fitting : (wanted : Wanted) → Yes (IsWanted wanted n) → Yes (Fitting t w wanted)
-      itself-fitting = fitting w t (unmended w) itself refl n is
+  pub mended-read : (m : Mended) → Without d (take 63 w) t m → (numbers new : List ℕ) → Answers m wanted old numbers new → Reads w t wanted old numbers new
+  mended-read m r =
+      let same : take 63 w ≡ w = take-all 63 w (let l = fit .long in omega arith) in
+      answered-reads w t wanted old fit m
+      (repaired-line w d t es (fit .long) (given (fit .characters)) m (subst (λ (v : List ℕ). Repairs d v (min t 5) m) same (r .whole (ap length same ∙ fit .long))))
 
-      pub itself-read : (new : List ℕ) → new ≡ w → ReadAs t w (n ∷ 0 ∷ 63 ∷ 63 ∷ []) new
-      itself-read = the-line w t (unmended w) itself refl n is
+-- ---- the answer after
 
-  module _ (m : Mended) (r : Without d (take 63 w) t m) where
-    mended : Nearest Line w (min t 5) m
-    mended =
-        let same : take 63 w ≡ w = take-all 63 w (omega arith) in
-        repaired-line w d t es long characters m (subst (λ (v : List ℕ). Repairs d v (min t 5) m) same (r .whole (ap length same ∙ long)))
+module _ (m : Mended) (wanted : Wanted) (old : List ℕ) where
+  pub none-answered : m .found ≡ false → Answers m wanted old (numberOf NoLine ∷ 0 ∷ 0 ∷ 0 ∷ 0 ∷ []) old
+  none-answered q =
+      record {
+        none = λ _. (refl, refl);
+        other = λ z. absurd (true-false (sym z ∙ q));
+        line = λ z. absurd (true-false (sym z ∙ q));
+      }
 
-    pub none-mended : t ≤ 5 → m .found ≡ false → No (Readable t w)
-    none-mended = none w t m mended long characters
+  module _ (here : m .found ≡ true) (n : ℕ) (is : n ≡ lowNumber (m .word)) where
+    pub other-answered : No (IsWanted wanted n) → Answers m wanted old (numberOf OtherNumber ∷ 0 ∷ 0 ∷ 0 ∷ 0 ∷ []) old
+    other-answered d =
+        record {
+          none = λ z. absurd (true-false (sym here ∙ z));
+          other = λ _ _. (refl, refl);
+          line = λ _ i. absurd (d .not (subst (IsWanted wanted) (sym is) i));
+        }
 
-    module _ (here : m .found ≡ true) where
-      pub mended-readable : Yes (Readable t w)
-      mended-readable = readable w t m mended here
-
-      module _ (n : ℕ) (is : n ≡ getD (m .word) 50 0 % 64 * 64 + getD (m .word) 51 0 % 64) where
-        pub mended-other : (wanted : Wanted) → t ≤ 5 → No (IsWanted wanted n) → No (Fitting t w wanted)
-        mended-other wanted = other w t m mended here n is wanted long
-
-        pub mended-fitting : (wanted : Wanted) → Yes (IsWanted wanted n) → Yes (Fitting t w wanted)
-        mended-fitting = fitting w t m mended here n is
-
-        pub mended-read : (new : List ℕ) → new ≡ m .word → ReadAs t w (n ∷ m .weight ∷ m .first ∷ m .last ∷ []) new
-        mended-read = the-line w t m mended here n is
+    pub line-answered : Yes (IsWanted wanted n) → (new : List ℕ) → Writes (m .word) old new → Answers m wanted old (0 ∷ n ∷ m .weight ∷ m .first ∷ m .last ∷ []) new
+    line-answered i new p =
+        record {
+          none = λ z. absurd (true-false (sym here ∙ z));
+          other = λ _ d. absurd (d (subst (IsWanted wanted) is (i .is)));
+          line = λ _ _. (ap (λ (k : ℕ). 0 ∷ k ∷ m .weight ∷ m .first ∷ m .last ∷ []) is, p);
+        }
 
 -- ---- the output
 
@@ -228,8 +286,21 @@ written w room = w .over room
 pub written-long : {line old new : List ℕ} → Writes line old new → length line ≡ 63 → length old ≡ 63 → length new ≡ length old
 written-long w l room = ap length (w .over room) ∙ l ∙ sym room
 
-pub same-long : (w old new : List ℕ) → length w ≡ 63 → length old ≡ 63 → new ≡ w → length new ≡ length old
-same-long w old new l room e = ap length e ∙ l ∙ sym room
+-- whatever its length, the output keeps it
+pub writes-long : {line old new : List ℕ} → Writes line old new → length line ≡ 63 → length new ≡ length old
+writes-long {old = old} w l = ⊎-elim (λ (e : length old ≡ 63). written-long w l e) (λ (d : length old ≡ 63 → ⊥). ap length (w .beside d)) (same-or-not (length old) 63)
+
+pub answered-long : (m : Mended) (wanted : Wanted) (old numbers new : List ℕ) → length (m .word) ≡ 63 → Answers m wanted old numbers new → length new ≡ length old
+answered-long m wanted old numbers new l a = pick (m .found) refl
+  where
+    pick : (b : Bool) → m .found ≡ b → length new ≡ length old
+    pick false q = ap length (a .none q .1)
+    pick true q =
+        ⊎-elim (λ (i : IsWanted wanted (lowNumber (m .word))). writes-long (a .line q i .1) l)
+        (λ (d : IsWanted wanted (lowNumber (m .word)) → ⊥). ap length (a .other q d .1)) (wanted-or-not wanted (lowNumber (m .word)))
+
+pub same-long : (w old new : List ℕ) → (length w ≡ 63) × (length old ≡ 63) → new ≡ w → length new ≡ length old
+same-long w old new both e = ap length e ∙ both .0 ∙ sym (both .1)
 
 -- and so it does where it was copied over other bytes before
 module _ (w spare line old new : List ℕ) (l : length w ≡ 63) (k : length spare ≡ 63) (e : line ≡ take (length w) w ++ drop (length w) spare)
@@ -238,4 +309,4 @@ module _ (w spare line old new : List ℕ) (l : length w ≡ 63) (k : length spa
   copy-written = put .over room ∙ copied w spare line l k e
 
   pub copy-written-long : length new ≡ length old
-  copy-written-long = same-long w old new l room copy-written
+  copy-written-long = same-long w old new (l, room) copy-written

@@ -1,12 +1,10 @@
 // Reading a line: the line within the radius, or a refusal exactly when there is none.
 ghost use mathlib.Core.Path.{_≡_};
-ghost use Prim.Native.Nat.{_+_, _*_, _%_};
-ghost use lib.ListN.{length, getD};
+ghost use lib.ListN.{length};
 ghost use Rattle.refusal.specs.Promise.{Tells};
-ghost use Rattle.code.specs.Word.{number};
 ghost use Rattle.sums.specs.Held.{eleven};
 ghost use Rattle.line.specs.Promises.{readingNumbers, plainNumbers, Possible, Reads};
-ghost use Rattle.line.specs.Inside.{NearestLine, ErrorSums, IsWanted, Writes};
+ghost use Rattle.line.specs.Inside.{Fit, TestedAs, NearestLine, ErrorSums, lowNumber, IsWanted, Writes, Answers};
 use mender::Mended;
 use mender::NOWHERE;
 use refusal::Refusal;
@@ -39,25 +37,49 @@ pub struct PlainReading {
     pub last: u8,
 }
 
-// Reads a line: writes the line within the radius of the word. Nearly all words are lines themselves, and are copied at once.
+// What the tests before reading leave: the first refusal, or none.
+pub enum Verdict {
+    Passed,
+    Refused(Refusal),
+}
+
+// Reads a line: writes the line within the radius of the word.
 pub fn read_line(word: &[u8], radius: u8, wanted: Wanted, output: &mut [u8]) -> LineReading
     ensures { λ r. ⌜ Reads (now (word .entry)) radius wanted (now (output .entry)) (readingNumbers r) (now (output .exit)) ⌝ }
 {
-    if word.len() != 63 {
-        return LineReading::Refused(Refusal::InputLength);
+    match tested(word, output.len(), radius, wanted) {
+        Verdict::Refused(why) => LineReading::Refused(why),
+        Verdict::Passed => read_tested(word, radius, wanted, output),
     }
-    if output.len() != 63 {
-        return LineReading::Refused(Refusal::OutputLength);
+}
+
+// The tests before reading, in their order.
+pub fn tested(word: &[u8], room: usize, radius: u8, wanted: Wanted) -> Verdict
+    ensures { λ r. ⌜ TestedAs (now (word .entry)) radius wanted room r ⌝ }
+{
+    if word.len() != 63 {
+        return Verdict::Refused(Refusal::InputLength);
+    }
+    if room != 63 {
+        return Verdict::Refused(Refusal::OutputLength);
     }
     if !eights::all_low(word) {
-        return LineReading::Refused(Refusal::ValueOver);
+        return Verdict::Refused(Refusal::ValueOver);
     }
     if radius > 5 {
-        return LineReading::Refused(Refusal::RadiusOver);
+        return Verdict::Refused(Refusal::RadiusOver);
     }
     if !possible(wanted) {
-        return LineReading::Refused(Refusal::NumberOver);
+        return Verdict::Refused(Refusal::NumberOver);
     }
+    Verdict::Passed
+}
+
+// Nearly all words are lines themselves, and are copied at once.
+fn read_tested(word: &[u8], radius: u8, wanted: Wanted, output: &mut [u8]) -> LineReading
+    requires { ⌜ Fit (now word) radius wanted (length (now output)) ⌝ }
+    ensures { λ r. ⌜ Reads (now (word .entry)) radius wanted (now (output .entry)) (readingNumbers r) (now (output .exit)) ⌝ }
+{
     let errors = error_sums(word);
     if mender::all_zero(errors) {
         let own = number_of(word);
@@ -74,6 +96,13 @@ pub fn read_line(word: &[u8], radius: u8, wanted: Wanted, output: &mut [u8]) -> 
     }
     // A part, and so a slice of its own: else the compiler copies the word's pointer and length before all tests, and these wait for it.
     let found = mender::without_errors(&word[..63], errors, radius as usize);
+    answered(found, wanted, output)
+}
+
+// The answer where a line was found or none was: it has to carry the wanted number, and is written.
+pub fn answered(found: Mended, wanted: Wanted, output: &mut [u8]) -> LineReading
+    ensures { λ r. ⌜ Answers found wanted (now (output .entry)) (readingNumbers r) (now (output .exit)) ⌝ }
+{
     if !found.found {
         return LineReading::Refused(Refusal::NoLine);
     }
@@ -134,7 +163,7 @@ pub fn nearest_line(word: &[u8], radius: u8) -> Mended
 
 // The number that a line carries: of each of its two characters the low six bits count.
 pub fn number_of(line: &[u8]) -> u16
-    ensures { λ r. ⌜ r ≡ getD (now (line .entry)) 50 0 % 64 * 64 + getD (now (line .entry)) 51 0 % 64 ⌝ }
+    ensures { λ r. ⌜ r ≡ lowNumber (now (line .entry)) ⌝ }
 {
     let high = eights::byte_at(line, 50);
     let low = eights::byte_at(line, 51);

@@ -25,7 +25,7 @@ extern "C" {
 /* ---- The version of this header. tools/tables writes its three numbers from version.txt. */
 
 #define FILM_VERSION_MAJOR 4
-#define FILM_VERSION_MINOR 3
+#define FILM_VERSION_MINOR 4
 #define FILM_VERSION_PATCH 0
 #define FILM_VERSION (1000000 * FILM_VERSION_MAJOR + 1000 * FILM_VERSION_MINOR + FILM_VERSION_PATCH)
 
@@ -131,6 +131,11 @@ film_line film_read_line(const uint8_t *word, size_t word_len, uint8_t radius, u
 
 /* The line must carry the wanted number. Refusals: 1, 5, 2, 3, 4, 6, 7. */
 film_line film_read_line_wanted(const uint8_t *word, size_t word_len, uint8_t radius, uint16_t wanted, uint8_t *out, size_t out_len);
+
+/* The same two by the method of 1968, for a museum: every answer and every output is that of the two above, and the time is
+ * longer. Refusals: as above. */
+film_line film_read_line_paper(const uint8_t *word, size_t word_len, uint8_t radius, uint8_t *out, size_t out_len);
+film_line film_read_line_paper_wanted(const uint8_t *word, size_t word_len, uint8_t radius, uint16_t wanted, uint8_t *out, size_t out_len);
 
 /* With a map of blots, the characters that the scanner could not see: 63 bytes, 1 for a blot and 0 for none. With f blots the
  * line is the one that differs from the word in e characters outside them, 2e + f at most 11; there is never a second one. The

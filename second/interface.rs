@@ -81,6 +81,8 @@ extern "C" {
     pub fn film_encode_line(text: *const u8, text_len: usize, number: u16, out: *mut u8, out_len: usize) -> u8;
     pub fn film_read_line(word: *const u8, word_len: usize, radius: u8, out: *mut u8, out_len: usize) -> Line;
     pub fn film_read_line_wanted(word: *const u8, word_len: usize, radius: u8, wanted: u16, out: *mut u8, out_len: usize) -> Line;
+    pub fn film_read_line_paper(word: *const u8, word_len: usize, radius: u8, out: *mut u8, out_len: usize) -> Line;
+    pub fn film_read_line_paper_wanted(word: *const u8, word_len: usize, radius: u8, wanted: u16, out: *mut u8, out_len: usize) -> Line;
     pub fn film_read_spool(lines: *const u8, lines_len: usize, radius: u8, out: *mut u8, out_len: usize) -> Spool;
     pub fn film_read_blotted(word: *const u8, word_len: usize, map: *const u8, map_len: usize, out: *mut u8, out_len: usize) -> Line;
     pub fn film_better_scan(first: *const u8, first_len: usize, second: *const u8, second_len: usize, radius: u8) -> Choice;

@@ -52,7 +52,7 @@ use std::fmt::Debug;
 use std::process::exit;
 
 /// The version that the library has to tell. tools/tables writes it from version.txt.
-const VERSION: u32 = 4003000;
+const VERSION: u32 = 4004000;
 
 /// Each call, and every answer that it can give. A spool's line and an unblotted one, a word with no blot, are read alone, by film_read_line.
 const ANSWERS: [(&str, &[u8]); 19] = [

@@ -20,7 +20,7 @@ import pathlib
 from typing import NamedTuple, Optional
 
 # tools/tables writes this from version.txt, and the refusals below from refusals.txt.
-__version__ = "4.3.0"
+__version__ = "4.4.0"
 
 _u8 = ctypes.c_uint8
 _u16 = ctypes.c_uint16

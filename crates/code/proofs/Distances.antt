@@ -5,7 +5,7 @@ use mathlib.Core.List.{List, [], _∷_}
 use Prim.Native.Nat.{ℕ, zero, suc, _+_, _-_, _≤_}
 use native.Mathlib.Nat.{le-trans}
 use native.Mathlib.Omega.{arith}
-use lib.ListN.{length, take}
+use lib.ListN.{length, take, set}
 use lib.Dec.{eqb}
 use borrow.Author.Tests.{eqb-true, eqb-false, eq-eqb}
 use Rattle.field.specs.Field.{sum}
@@ -75,6 +75,19 @@ distance-comm u v = distance-weight u v ∙ ap weight (added-comm u v) ∙ sym (
 pub distance-self : (u : List ℕ) → distance u u ≡ 0
 distance-self u = distance-weight u u ∙ weight-zeros (added u u) (added-self u)
 
+differs-le : (c d : ℕ) → differs (eqb c d) ≤ 1
+differs-le c d = let e = differs-at c d in let h = nonzero-le (sum c d) in omega arith
+
+-- one character changed
+pub distance-set : (u : List ℕ) (a c : ℕ) → distance u (set u a c) ≤ 1
+unfolding distance
+distance-set [] a c = omega arith
+distance-set (x ∷ u) zero c = let e = distance-self u in let l = differs-le x c in omega arith
+distance-set (x ∷ u) (suc a) c =
+    let l = distance-set u a c in
+    let e : differs (eqb x x) ≡ 0 = ap differs (eq-eqb x x refl) in
+    omega arith
+
 pub distance-zero : (u v : List ℕ) → length u ≡ length v → distance u v ≡ 0 → u ≡ v
 distance-zero u v h e = added-zeros u v h (weight-none (added u v) (sym (distance-weight u v) ∙ e))
 
@@ -107,9 +120,6 @@ distance-sums a b u v =
     let q = distance-weight b v in
     let t = weight-added (added a u) (added b v) in
     omega arith
-
-differs-le : (c d : ℕ) → differs (eqb c d) ≤ 1
-differs-le c d = let e = differs-at c d in let h = nonzero-le (sum c d) in omega arith
 
 -- words that begin alike differ only after
 pub distance-take : (n : ℕ) (u v : List ℕ) → take n u ≡ take n v → distance u v ≤ length u - n

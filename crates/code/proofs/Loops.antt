@@ -70,7 +70,7 @@ pub record SumsTo (w sums : List ℕ) (x k : ℕ) : Type 0 where
   pub point : x ≡ power α (58 + k)
   pub passed : (m : ℕ) → m < k → getD sums m 0 ≡ valueAt (power α (58 + m)) w
 
-first-point : 63 ≡ power α 58
+pub first-point : 63 ≡ power α 58
 unfolding power product shifted timesX sum
 first-point = refl
 

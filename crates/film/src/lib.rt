@@ -29,7 +29,7 @@ use spool::SpoolAnswer;
 pub mod recorder;
 
 // The library's version: a million times the major number, a thousand times the minor, and the patch. tools/tables writes it from version.txt.
-const VERSION: u32 = 4003000;
+const VERSION: u32 = 4004000;
 
 // The version of the library that is linked.
 #[no_mangle]
@@ -163,6 +163,27 @@ pub extern "C" fn film_read_line_wanted(
     ensures { λ r. ⌜ Line.Reads (now (word .entry)) radius (Number wanted) (now (out .entry)) (Line.plainNumbers r) (now (out .exit)) ⌝ }
 {
     line::plain(line::read_line(word, radius, Wanted::Number(wanted), out))
+}
+
+// Reads a line as 001 did, with no wanted number.
+#[no_mangle]
+pub extern "C" fn film_read_line_paper(word: &[u8], radius: u8, out: &mut [u8]) -> PlainReading
+    ensures { λ r. ⌜ Line.Reads (now (word .entry)) radius Any (now (out .entry)) (Line.plainNumbers r) (now (out .exit)) ⌝ }
+{
+    line::plain(paper::read_line(word, radius, Wanted::Any, out))
+}
+
+// Reads a line that must carry the wanted number, as 001 did.
+#[no_mangle]
+pub extern "C" fn film_read_line_paper_wanted(
+    word: &[u8],
+    radius: u8,
+    wanted: u16,
+    out: &mut [u8],
+) -> PlainReading
+    ensures { λ r. ⌜ Line.Reads (now (word .entry)) radius (Number wanted) (now (out .entry)) (Line.plainNumbers r) (now (out .exit)) ⌝ }
+{
+    line::plain(paper::read_line(word, radius, Wanted::Number(wanted), out))
 }
 
 // Reads a line with blots.

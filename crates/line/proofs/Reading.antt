@@ -1,6 +1,6 @@
 -- The ways out of reading a line: the tests before in the paper's order, what is found, and the answer after.
 use mathlib.Core.Path.{_≡_, refl, sym, ap, ap₂, _∙_, subst}
-use mathlib.Core.Bool.{Bool, true, false}
+use mathlib.Core.Bool.{Bool, true, false, not}
 use mathlib.Core.Logic.{_⊎_, inl, ⊎-elim}
 use mathlib.Core.List.{List, [], _∷_, _++_, append-nil}
 use Prim.Native.Nat.{ℕ, min, _+_, _*_, _%_, _<_, _≤_}
@@ -9,13 +9,13 @@ use native.Mathlib.Omega.{arith}
 use lib.Dec.{leb, eqb}
 use lib.ListN.{length, getD, take, drop, replicate}
 use lib.Seq.{ext-getD, length-take-le, take-all, drop-length}
-use borrow.Author.Tests.{leb-true, leb-false, eqb-true, eqb-false}
+use borrow.Author.Tests.{not-false, leb-true, leb-false, eqb-true, eqb-false}
 use Rattle.numbers.proofs.Cases.{same-or-not}
 use Rattle.refusal.specs.declared.Refusal.{Refusal}
-use Rattle.refusal.specs.declared.Refusal.the-variants.{NoLine, OtherNumber}
+use Rattle.refusal.specs.declared.Refusal.the-variants.{NumberOver, NoLine, OtherNumber}
 use Rattle.refusal.specs.Number.{numberOf}
-use Rattle.refusal.specs.Promise.{Test, Tells}
-use Rattle.refusal.proofs.Laws.{tells-yes}
+use Rattle.refusal.specs.Promise.{Test, Answer, Tells}
+use Rattle.refusal.proofs.Laws.{tells-yes, tells-no}
 use Rattle.refusal.proofs.Ladder.{Yes, No, Met, FailsAt, answerAt, _then_, given, denied, fails-answer, refuses, refuses-too, succeeds}
 use Rattle.field.specs.Field.{sum}
 use Rattle.field.proofs.Laws
@@ -35,10 +35,8 @@ use Rattle.mender.proofs.Finding.{true-false, nearest-as}
 use Rattle.mender.proofs.Repairing.{repairs-none, near}
 use Rattle.line.specs.declared.Wanted.{Wanted}
 use Rattle.line.specs.declared.Wanted.the-variants as W
-use Rattle.line.specs.declared.Verdict.{Verdict}
-use Rattle.line.specs.declared.Verdict.the-variants as Verdicts
 use Rattle.line.specs.Promises.{Within, Readable, Possible, Carries, Fitting, readingTests, told, ReadAs, Reads}
-use Rattle.line.specs.Inside.{Fit, AnswersAs, TestedAs, ErrorSums, lowNumber, IsWanted, Writes, Answers}
+use Rattle.line.specs.Inside.{Fit, RefusedFirst, ErrorSums, lowNumber, IsWanted, Writes, Answers}
 
 -- ---- the nearest line: a line is a word with the power sums of the marks
 
@@ -126,27 +124,47 @@ module _ (w : List ℕ) (t : ℕ) (wanted : Wanted) (old : List ℕ) where
 -- ---- the tests before
 
 module _ (w : List ℕ) (t : ℕ) (wanted : Wanted) (room : ℕ) where
-  pub passed : length w ≡ 63 → room ≡ 63 → Yes (Characters w) → t ≤ 5 → Yes (Possible wanted) → Fit w t wanted room
-  passed long enough characters near possible =
-      record { long = long; enough = enough; characters = characters .is; near = near; possible = possible .is }
+  pub unfit-word : (length w ≡ 63 → ⊥) → Tells (Fit w t wanted room) false
+  unfit-word d = tells-no (λ f. d (f .long))
 
-  pub failed : (n : ℕ) → FailsAt n (readingTests w t wanted room) → AnswersAs w t wanted room (answerAt n (readingTests w t wanted room))
-  unfolding AnswersAs
-  failed = fails-answer (readingTests w t wanted room)
+  pub unfit-room : (room ≡ 63 → ⊥) → Tells (Fit w t wanted room) false
+  unfit-room d = tells-no (λ f. d (f .enough))
 
-pub both-long : (w : List ℕ) (t : ℕ) (wanted : Wanted) (old : List ℕ) → Fit w t wanted (length old) → (length w ≡ 63) × (length old ≡ 63)
-both-long w t wanted old fit = (fit .long, fit .enough)
+  pub unfit-characters : No (Characters w) → Tells (Fit w t wanted room) false
+  unfit-characters d = tells-no (λ f. d .not (f .characters))
 
--- what the tests left
-pub told-passed : (w : List ℕ) (t : ℕ) (wanted : Wanted) (room : ℕ) (v : Verdict) → v ≡ Verdicts.Passed → TestedAs w t wanted room v → Fit w t wanted room
-told-passed w t wanted room v e = subst (TestedAs w t wanted room) e
+  pub unfit-radius : 5 < t → Tells (Fit w t wanted room) false
+  unfit-radius h = tells-no (λ f. let g = f .near in omega arith)
 
--- a reading refuses as its tests did
-pub refused-before : (w : List ℕ) (t : ℕ) (wanted : Wanted) (old : List ℕ) (v : Verdict) (why : Refusal) → v ≡ Verdicts.Refused why → TestedAs w t wanted (length old) v
+  module _ (long : length w ≡ 63) (enough : room ≡ 63) (characters : Yes (Characters w)) (near : t ≤ 5) where
+    fit : Possible wanted → Fit w t wanted room
+    fit p = record { long = long; enough = enough; characters = characters .is; near = near; possible = p }
+
+    pub fit-possible : (b : Bool) → Tells (Possible wanted) b → Tells (Fit w t wanted room) b
+    fit-possible b p = record { holds = λ e. fit (p .holds e); fails = λ e f. p .fails e (f .possible) }
+
+    pub refused-last : RefusedFirst w t wanted room NumberOver
+    refused-last =
+        record {
+          answer = λ d. fails-answer (readingTests w t wanted room) 4 (long then enough then characters .is then near then denied (λ p. d (fit p)));
+        }
+
+  pub refused-at : (n : ℕ) (r : Refusal) → numberOf r ≡ answerAt n (readingTests w t wanted room) → FailsAt n (readingTests w t wanted room) → RefusedFirst w t wanted room r
+  refused-at n r e f =
+      record { answer = λ _. subst (Answer (readingTests w t wanted room)) (sym e) (fails-answer (readingTests w t wanted room) n f) }
+
+-- a reading refuses as its tests do
+pub refused-before : (w : List ℕ) (t : ℕ) (wanted : Wanted) (old : List ℕ) (why : Refusal) → No (Fit w t wanted (length old)) → RefusedFirst w t wanted (length old) why
     → Reads w t wanted old (numberOf why ∷ 0 ∷ 0 ∷ 0 ∷ 0 ∷ []) old
-unfolding Reads AnswersAs
-refused-before w t wanted old v why e a =
-    refuses-too (ReadAs t w) 4 old (readingTests w t wanted (length old)) why (subst (TestedAs w t wanted (length old)) e a)
+unfolding Reads
+refused-before w t wanted old why d r = refuses-too (ReadAs t w) 4 old (readingTests w t wanted (length old)) why (r .answer (d .not))
+
+-- the lengths, as the code branches on the tests
+pub word-long : (w : List ℕ) (t : ℕ) (wanted : Wanted) (room : ℕ) (b : Bool) → Tells (Fit w t wanted room) b → not b ≡ false → length w ≡ 63
+word-long w t wanted room b f e = f .holds (not-false b e) .long
+
+pub room-long : (w : List ℕ) (t : ℕ) (wanted : Wanted) (room : ℕ) (b : Bool) → Tells (Fit w t wanted room) b → not b ≡ false → room ≡ 63
+room-long w t wanted room b f e = f .holds (not-false b e) .enough
 
 -- ---- what is found: no line, another one than is wanted, or the line
 
@@ -210,31 +228,34 @@ module _ (w : List ℕ) (t : ℕ) (wanted : Wanted) (old : List ℕ) (fit : Fit 
 abbrev unmended : List ℕ → Mended
 unmended w = record { found = true; weight = 0; first = nowhere; last = nowhere; word = w }
 
-pub all-long : (w : List ℕ) (t : ℕ) (wanted : Wanted) (room : ℕ) → Fit w t wanted room → 63 ≡ length (take 63 w)
-all-long w t wanted room fit = sym (length-take-le 63 w (le-of-eq (sym (fit .long))))
+pub all-long : (w : List ℕ) → length w ≡ 63 → 63 ≡ length (take 63 w)
+all-long w long = sym (length-take-le 63 w (le-of-eq (sym long)))
 
-module _ (w d : List ℕ) (t : ℕ) (wanted : Wanted) (old : List ℕ) (fit : Fit w t wanted (length old)) (es : ErrorSums w d) where
+module _ (w d : List ℕ) (t : ℕ) (wanted : Wanted) (old : List ℕ) (fits : Yes (Fit w t wanted (length old))) (es : ErrorSums w d) where
+  fit-here : Fit w t wanted (length old)
+  fit-here = fits .is
+
   module _ (b : Bool) (clear : Tells (Clear d) b) (q : b ≡ true) where
     itself : Nearest Line w (min t 5) (unmended w)
     itself =
-        repaired-line w d t es (fit .long) (given (fit .characters)) (unmended w)
-        (repairs-none d w w (min t 5) b (fit .long) clear q (unchanged w (fit .long)))
+        repaired-line w d t es (fit-here .long) (given (fit-here .characters)) (unmended w)
+        (repairs-none d w w (min t 5) b (fit-here .long) clear q (unchanged w (fit-here .long)))
 
     module _ (n : ℕ) (is : n ≡ lowNumber w) where
       pub itself-other : No (IsWanted wanted n) → Reads w t wanted old (answerAt 6 (tests w t wanted old) ∷ 0 ∷ 0 ∷ 0 ∷ 0 ∷ []) old
-      itself-other d = other w t wanted old fit (unmended w) itself refl (subst (λ (k : ℕ). IsWanted wanted k → ⊥) is (d .not))
+      itself-other d = other w t wanted old fit-here (unmended w) itself refl (subst (λ (k : ℕ). IsWanted wanted k → ⊥) is (d .not))
 
       pub itself-read : Yes (IsWanted wanted n) → (new : List ℕ) → new ≡ w → Reads w t wanted old (0 ∷ n ∷ 0 ∷ 63 ∷ 63 ∷ []) new
       itself-read i new e =
           subst (Reads w t wanted old (0 ∷ n ∷ 0 ∷ 63 ∷ 63 ∷ [])) (sym e)
           (subst (λ (k : ℕ). Reads w t wanted old (0 ∷ k ∷ 0 ∷ 63 ∷ 63 ∷ []) w) (sym is)
-          (the-line w t wanted old fit (unmended w) itself refl (subst (IsWanted wanted) is (i .is))))
+          (the-line w t wanted old fit-here (unmended w) itself refl (subst (IsWanted wanted) is (i .is))))
 
   pub mended-read : (m : Mended) → Without d (take 63 w) t m → (numbers new : List ℕ) → Answers m wanted old numbers new → Reads w t wanted old numbers new
   mended-read m r =
-      let same : take 63 w ≡ w = take-all 63 w (let l = fit .long in omega arith) in
-      answered-reads w t wanted old fit m
-      (repaired-line w d t es (fit .long) (given (fit .characters)) m (subst (λ (v : List ℕ). Repairs d v (min t 5) m) same (r .whole (ap length same ∙ fit .long))))
+      let same : take 63 w ≡ w = take-all 63 w (let l = fit-here .long in omega arith) in
+      answered-reads w t wanted old fit-here m
+      (repaired-line w d t es (fit-here .long) (given (fit-here .characters)) m (subst (λ (v : List ℕ). Repairs d v (min t 5) m) same (r .whole (ap length same ∙ fit-here .long))))
 
 -- ---- the answer after
 
@@ -299,8 +320,8 @@ answered-long m wanted old numbers new l a = pick (m .found) refl
         ⊎-elim (λ (i : IsWanted wanted (lowNumber (m .word))). writes-long (a .line q i .1) l)
         (λ (d : IsWanted wanted (lowNumber (m .word)) → ⊥). ap length (a .other q d .1)) (wanted-or-not wanted (lowNumber (m .word)))
 
-pub same-long : (w old new : List ℕ) → (length w ≡ 63) × (length old ≡ 63) → new ≡ w → length new ≡ length old
-same-long w old new both e = ap length e ∙ both .0 ∙ sym (both .1)
+pub same-long : (w old new : List ℕ) → length w ≡ 63 → length old ≡ 63 → new ≡ w → length new ≡ length old
+same-long w old new l room e = ap length e ∙ l ∙ sym room
 
 -- and so it does where it was copied over other bytes before
 module _ (w spare line old new : List ℕ) (l : length w ≡ 63) (k : length spare ≡ 63) (e : line ≡ take (length w) w ++ drop (length w) spare)
@@ -309,4 +330,4 @@ module _ (w spare line old new : List ℕ) (l : length w ≡ 63) (k : length spa
   copy-written = put .over room ∙ copied w spare line l k e
 
   pub copy-written-long : length new ≡ length old
-  copy-written-long = same-long w old new (l, room) copy-written
+  copy-written-long = same-long w old new l room copy-written

@@ -4,6 +4,7 @@ use mathlib.Core.Bool.{true, false}
 use mathlib.Core.List.{List, [], _∷_}
 use Prim.Native.Nat.{ℕ, min, _+_, _*_, _%_, _≤_}
 use lib.ListN.{length, getD}
+use Rattle.refusal.specs.declared.Refusal.{Refusal}
 use Rattle.refusal.specs.declared.Refusal.the-variants.{NoLine, OtherNumber}
 use Rattle.refusal.specs.Number.{numberOf}
 use Rattle.refusal.specs.Promise.{Answer}
@@ -13,8 +14,6 @@ use Rattle.mender.specs.declared.Mended.{Mended}
 use Rattle.mender.specs.Mender.{Nearest}
 use Rattle.line.specs.declared.Wanted.{Wanted}
 use Rattle.line.specs.declared.Wanted.the-variants as W
-use Rattle.line.specs.declared.Verdict.{Verdict}
-use Rattle.line.specs.declared.Verdict.the-variants as Verdicts
 use Rattle.line.specs.Promises.{Possible, readingTests}
 
 -- the tests before reading hold
@@ -25,14 +24,9 @@ pub record Fit (w : List ℕ) (t : ℕ) (wanted : Wanted) (room : ℕ) : Type 0 
   pub near : t ≤ 5
   pub possible : Possible wanted
 
--- the answer of reading is n
-unfoldable pub AnswersAs : List ℕ → ℕ → Wanted → ℕ → ℕ → Type 0
-AnswersAs w t wanted room n = Answer (readingTests w t wanted room) n
-
--- they hold, or the answer of reading is told
-abbrev pub TestedAs : List ℕ → ℕ → Wanted → ℕ → Verdict → Type 0
-TestedAs w t wanted room Verdicts.Passed = Fit w t wanted room
-TestedAs w t wanted room (Verdicts.Refused r) = AnswersAs w t wanted room (numberOf r)
+-- where one does not, the answer of reading is the number of this refusal
+pub record RefusedFirst (w : List ℕ) (t : ℕ) (wanted : Wanted) (room : ℕ) (r : Refusal) : Type 0 where
+  pub answer : (Fit w t wanted room → ⊥) → Answer (readingTests w t wanted room) (numberOf r)
 
 -- the line within t of a word, t counting up to 5, or that there is none
 abbrev pub NearestLine : List ℕ → ℕ → Mended → Type 0

@@ -4,7 +4,7 @@ ghost use lib.ListN.{length};
 ghost use Rattle.refusal.specs.Promise.{Tells};
 ghost use Rattle.sums.specs.Held.{eleven};
 ghost use Rattle.line.specs.Promises.{readingNumbers, plainNumbers, Possible, Reads};
-ghost use Rattle.line.specs.Inside.{Fit, TestedAs, NearestLine, ErrorSums, lowNumber, IsWanted, Writes, Answers};
+ghost use Rattle.line.specs.Inside.{Fit, RefusedFirst, NearestLine, ErrorSums, lowNumber, IsWanted, Writes, Answers};
 use mender::Mended;
 use mender::NOWHERE;
 use refusal::Refusal;
@@ -37,49 +37,13 @@ pub struct PlainReading {
     pub last: u8,
 }
 
-// What the tests before reading leave: the first refusal, or none.
-pub enum Verdict {
-    Passed,
-    Refused(Refusal),
-}
-
-// Reads a line: writes the line within the radius of the word.
+// Reads a line: writes the line within the radius of the word. Nearly all words are lines themselves, and are copied at once.
 pub fn read_line(word: &[u8], radius: u8, wanted: Wanted, output: &mut [u8]) -> LineReading
     ensures { λ r. ⌜ Reads (now (word .entry)) radius wanted (now (output .entry)) (readingNumbers r) (now (output .exit)) ⌝ }
 {
-    match tested(word, output.len(), radius, wanted) {
-        Verdict::Refused(why) => LineReading::Refused(why),
-        Verdict::Passed => read_tested(word, radius, wanted, output),
+    if !fits(word, output.len(), radius, wanted) {
+        return LineReading::Refused(first_refusal(word, output.len(), radius, wanted));
     }
-}
-
-// The tests before reading, in their order.
-pub fn tested(word: &[u8], room: usize, radius: u8, wanted: Wanted) -> Verdict
-    ensures { λ r. ⌜ TestedAs (now (word .entry)) radius wanted room r ⌝ }
-{
-    if word.len() != 63 {
-        return Verdict::Refused(Refusal::InputLength);
-    }
-    if room != 63 {
-        return Verdict::Refused(Refusal::OutputLength);
-    }
-    if !eights::all_low(word) {
-        return Verdict::Refused(Refusal::ValueOver);
-    }
-    if radius > 5 {
-        return Verdict::Refused(Refusal::RadiusOver);
-    }
-    if !possible(wanted) {
-        return Verdict::Refused(Refusal::NumberOver);
-    }
-    Verdict::Passed
-}
-
-// Nearly all words are lines themselves, and are copied at once.
-fn read_tested(word: &[u8], radius: u8, wanted: Wanted, output: &mut [u8]) -> LineReading
-    requires { ⌜ Fit (now word) radius wanted (length (now output)) ⌝ }
-    ensures { λ r. ⌜ Reads (now (word .entry)) radius wanted (now (output .entry)) (readingNumbers r) (now (output .exit)) ⌝ }
-{
     let errors = error_sums(word);
     if mender::all_zero(errors) {
         let own = number_of(word);
@@ -97,6 +61,44 @@ fn read_tested(word: &[u8], radius: u8, wanted: Wanted, output: &mut [u8]) -> Li
     // A part, and so a slice of its own: else the compiler copies the word's pointer and length before all tests, and these wait for it.
     let found = mender::without_errors(&word[..63], errors, radius as usize);
     answered(found, wanted, output)
+}
+
+// Whether the tests before reading hold.
+pub fn fits(word: &[u8], room: usize, radius: u8, wanted: Wanted) -> bool
+    ensures { λ r. ⌜ Tells (Fit (now (word .entry)) radius wanted room) r ⌝ }
+{
+    if word.len() != 63 {
+        return false;
+    }
+    if room != 63 {
+        return false;
+    }
+    if !eights::all_low(word) {
+        return false;
+    }
+    if radius > 5 {
+        return false;
+    }
+    possible(wanted)
+}
+
+// The refusal of the first of them that does not hold, where one does not. Told apart from whether they hold, so that a line is read without it.
+pub fn first_refusal(word: &[u8], room: usize, radius: u8, wanted: Wanted) -> Refusal
+    ensures { λ r. ⌜ RefusedFirst (now (word .entry)) radius wanted room r ⌝ }
+{
+    if word.len() != 63 {
+        return Refusal::InputLength;
+    }
+    if room != 63 {
+        return Refusal::OutputLength;
+    }
+    if !eights::all_low(word) {
+        return Refusal::ValueOver;
+    }
+    if radius > 5 {
+        return Refusal::RadiusOver;
+    }
+    Refusal::NumberOver
 }
 
 // The answer where a line was found or none was: it has to carry the wanted number, and is written.

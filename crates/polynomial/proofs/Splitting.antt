@@ -29,15 +29,16 @@ without x (y ∷ ys) pl h =
     (λ (e : y ≡ x).
     (ys, record { many = refl; places = pl .3; fresh = subst (λ (z : ℕ). Fresh z ys) e (pl .2); apart = λ z f. f .1; zeros = λ ps z. z .1 }))
     (λ (d : y ≡ x → ⊥).
-    let r = without x ys (pl .3) (λ f. h (d, f)) in
-    (y ∷ r .0,
+    let r = without x ys (pl .3) (λ f. h (d, f)) in (
+      y ∷ r .0,
       record {
         many = ap suc (r .1 .many);
         places = (pl .0, pl .1, r .1 .apart y (pl .2), r .1 .places);
         fresh = (d, r .1 .fresh);
         apart = λ z f. (f .0, r .1 .apart z (f .1));
         zeros = λ ps z. (z .0, r .1 .zeros ps (z .1));
-      }))
+      },
+    ))
     (same-or-not y x)
 
 -- ---- no more roots than the degree
@@ -91,15 +92,16 @@ module _ (p : List ℕ) (n x : ℕ) (m : Monic p (suc n)) where
 
       split-over : (os : List ℕ) × Split (over p x) n os × Fresh x os
       split-over =
-          let w = without x rs (s .places) not-fresh in
-          (w .0,
+          let w = without x rs (s .places) not-fresh in (
+            w .0,
             record {
               monic = divided-monic;
               places = w .1 .places;
               many = (let a = w .1 .many in let b = s .many in omega arith);
               zeros = over-zeros p x (w .0) (m .small) lt (w .1 .fresh) (w .1 .places) root (w .1 .zeros p (s .zeros));
             },
-            w .1 .fresh)
+            w .1 .fresh,
+          )
 
       pub others-split : (os : List ℕ) × Split (over p x) n os
       others-split = (split-over .0, split-over .1)

@@ -1,0 +1,2 @@
+-- What finding the roots of a polynomial promises.
+pub mod Roots

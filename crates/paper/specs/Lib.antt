@@ -1,0 +1,2 @@
+-- What the steps of the paper's way promise each other.
+pub mod Inside

@@ -1,69 +1,16 @@
 /* Tests of reading a line with blots: the line is found as long as 2e + f is at most 11, no character at a blot has a say, the
  * distance counts blots too, and every refusal comes in its order. It compiles as C and as C++. */
-#include "expect.h"
-#include "film.h"
-#include <string.h>
+#include "words.h"
 
-enum { LINE = FILM_CHARACTERS, MOST = FILM_CHECKS, SIDE = 16, OLD = 170, TRIES = 40 };
+enum { MOST = FILM_CHECKS, TRIES = 40 };
 
-/* A line, and a word and a map of 63 bytes with as many zeros after them. */
-static uint8_t line[LINE], word[2 * LINE], map[2 * LINE];
-
-/* An output with bytes to either side, and what all of it has to hold in the end. */
-static uint8_t memory[SIDE + 2 * LINE + SIDE], due[sizeof memory];
-static uint8_t *const out = memory + SIDE, *const due_out = due + SIDE;
-
-static const film_line no_line = {FILM_NO_LINE, 0, 0, 0, 0};
-
-/* Numbers that look like chance, the same in every run. */
-static uint32_t chance = 1;
-static int below(int bound) {
-    chance = chance * 1664525 + 1013904223;
-    return (int)((chance >> 8) % (uint32_t)bound);
-}
-
-static void lend(void) {
-    memset(memory, OLD, sizeof memory);
-    memset(due, OLD, sizeof due);
-}
-
-static int same(film_line one, film_line other) {
-    return one.answer == other.answer && one.distance == other.distance && one.number == other.number && one.first == other.first && one.last == other.last;
-}
-
-/* Whether a call gave what is due and left what is due in the output and beside it. */
-static int is_due(film_line r, film_line answer) { return same(r, answer) && memcmp(memory, due, sizeof memory) == 0; }
+/* A map of 63 bytes with as many zeros after them. */
+static uint8_t map[2 * LINE];
 
 static film_line read_blotted(void) {
     lend();
     return film_read_blotted(word, LINE, map, LINE, out, LINE);
 }
-
-/* What reading `word` has to give where it is read as `line`. */
-static film_line read_as_line(void) {
-    film_line r = {FILM_DONE, 0, (uint16_t)(line[50] * 64 + line[51]), FILM_NOWHERE, FILM_NOWHERE};
-    for (int a = 0; a < LINE; a++) {
-        if (word[a] == line[a])
-            continue;
-        if (r.distance++ == 0)
-            r.first = (uint8_t)a;
-        r.last = (uint8_t)a;
-    }
-    memcpy(due_out, line, LINE);
-    return r;
-}
-
-static void make_line(void) {
-    uint8_t text[FILM_TEXT];
-    for (int a = 0; a < FILM_TEXT; a++)
-        text[a] = (uint8_t)below(64);
-    EXPECT(film_encode_line(text, FILM_TEXT, (uint16_t)below(4096), line, LINE) == FILM_DONE);
-    memcpy(word, line, LINE);
-    memset(map, 0, LINE);
-}
-
-/* Another character at an address. */
-static void spoil(int a) { word[a] ^= (uint8_t)(1 + below(63)); }
 
 /* What stands at the blots: what was recorded, no such character anywhere, or either. */
 enum { RECORDED, SPOILT, EITHER, FILLINGS };
@@ -71,6 +18,7 @@ enum { RECORDED, SPOILT, EITHER, FILLINGS };
 /* A line with so many blots, and so many wrong characters outside them; every address is met among both. */
 static void make_word(int blots, int wrong, int filling) {
     make_line();
+    memset(map, 0, LINE);
     for (int placed = 0; placed < blots + wrong;) {
         int a = below(LINE);
         if (map[a] != 0 || word[a] != line[a])
@@ -102,7 +50,7 @@ static void not_found(void) {
     for (int blots = 0; blots <= MOST; blots += 2)
         for (int i = 0; i < FILLINGS * TRIES; i++) {
             make_word(blots, (MOST + 1 - blots) / 2, i % FILLINGS);
-            EXPECT(is_due(read_blotted(), no_line));
+            EXPECT(is_refused(read_blotted(), FILM_NO_LINE));
         }
 }
 
@@ -135,9 +83,9 @@ static void mostly_not_found(void) {
                 continue;
             }
             none++;
-            EXPECT(is_due(r, no_line));
+            EXPECT(is_refused(r, FILM_NO_LINE));
             blot_one_more();
-            EXPECT(is_due(read_blotted(), no_line));
+            EXPECT(is_refused(read_blotted(), FILM_NO_LINE));
         }
     EXPECT(none > TRIES);
 }
@@ -157,7 +105,7 @@ static void never_found(void) {
     for (int blots = MOST + 1; blots <= LINE; blots++)
         for (int filling = 0; filling < FILLINGS; filling++) {
             make_word(blots, 0, filling);
-            EXPECT(is_due(read_blotted(), no_line));
+            EXPECT(is_refused(read_blotted(), FILM_NO_LINE));
         }
 }
 
@@ -172,24 +120,22 @@ static void no_blots(void) {
 
 /* So much of the word, of the map and of the output is refused; an empty slice is NULL. */
 static void refused(int answer, size_t word_len, size_t map_len, size_t out_len) {
-    film_line none = {(uint8_t)answer, 0, 0, 0, 0};
     lend();
     film_line r = film_read_blotted(word_len == 0 ? NULL : word, word_len, map_len == 0 ? NULL : map, map_len, out_len == 0 ? NULL : out, out_len);
-    EXPECT(is_due(r, none));
+    EXPECT(is_refused(r, answer));
 }
 
 /* Lengths come before values, and those before too many blots: all are wrong here. */
 static void lengths(void) {
-    static const size_t wrong[] = {0, 1, 62, 64, 126};
     make_word(MOST + 1, 0, SPOILT);
     word[9] = 64, map[40] = 2;
-    for (size_t i = 0; i < sizeof wrong / sizeof wrong[0]; i++) {
-        refused(FILM_INPUT_LENGTH, wrong[i], LINE, LINE);
-        refused(FILM_INPUT_LENGTH, LINE, wrong[i], LINE);
-        refused(FILM_INPUT_LENGTH, wrong[i], wrong[i], wrong[i]);
-        refused(FILM_INPUT_LENGTH, wrong[i], LINE, 62);
-        refused(FILM_INPUT_LENGTH, LINE, wrong[i], 62);
-        refused(FILM_OUTPUT_LENGTH, LINE, LINE, wrong[i]);
+    for (int i = 0; i < WRONG_LENGTHS; i++) {
+        refused(FILM_INPUT_LENGTH, wrong_lengths[i], LINE, LINE);
+        refused(FILM_INPUT_LENGTH, LINE, wrong_lengths[i], LINE);
+        refused(FILM_INPUT_LENGTH, wrong_lengths[i], wrong_lengths[i], wrong_lengths[i]);
+        refused(FILM_INPUT_LENGTH, wrong_lengths[i], LINE, 62);
+        refused(FILM_INPUT_LENGTH, LINE, wrong_lengths[i], 62);
+        refused(FILM_OUTPUT_LENGTH, LINE, LINE, wrong_lengths[i]);
     }
 }
 

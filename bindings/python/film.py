@@ -163,6 +163,8 @@ def _load(path):
         ("checks", [_Register], _Checked),
         ("read_line", given + [_u8] + output, _Line),
         ("read_line_wanted", given + [_u8, _u16] + output, _Line),
+        ("read_line_paper", given + [_u8] + output, _Line),
+        ("read_line_paper_wanted", given + [_u8, _u16] + output, _Line),
         ("read_blotted", given + given + output, _Line),
         ("read_spool", given + [_u8] + output, _Spool),
         ("better_scan", given + given + [_u8], _Choice),
@@ -248,13 +250,21 @@ def encode_line(text, number, out: Optional[bytearray] = None) -> bytes:
     return _call(_library.film_encode_line, text, _bounded(number, 65535), room=63, out=out)[1]
 
 
+def _read_line(function, wanting, word, radius, wanted, out):
+    """A line read by `function`, or, where a number is wanted, by `wanting`."""
+    if wanted is None:
+        return _line_read(*_call(function, word, _byte(radius), room=63, out=out))
+    return _line_read(*_call(wanting, word, _byte(radius), _bounded(wanted, 65535), room=63, out=out))
+
+
 def read_line(word, radius, wanted=None, out: Optional[bytearray] = None) -> LineRead:
     """The line within the radius of 63 characters; where a number is wanted, it must carry that number."""
-    if wanted is None:
-        result, line = _call(_library.film_read_line, word, _byte(radius), room=63, out=out)
-    else:
-        result, line = _call(_library.film_read_line_wanted, word, _byte(radius), _bounded(wanted, 65535), room=63, out=out)
-    return _line_read(result, line)
+    return _read_line(_library.film_read_line, _library.film_read_line_wanted, word, radius, wanted, out)
+
+
+def read_line_paper(word, radius, wanted=None, out: Optional[bytearray] = None) -> LineRead:
+    """The same by the method of 1968, for a museum: for every input it gives and raises what read_line does, and takes longer."""
+    return _read_line(_library.film_read_line_paper, _library.film_read_line_paper_wanted, word, radius, wanted, out)
 
 
 def read_blotted(word, map, out: Optional[bytearray] = None) -> LineRead:
@@ -274,8 +284,7 @@ def read_blotted(word, map, out: Optional[bytearray] = None) -> LineRead:
     (65, 10, 20, 62)
     """
     map = _bytes(map)
-    result, line = _call(_library.film_read_blotted, word, map, len(map), room=63, out=out)
-    return _line_read(result, line)
+    return _line_read(*_call(_library.film_read_blotted, word, map, len(map), room=63, out=out))
 
 
 def read_spool(lines, radius, out: Optional[bytearray] = None) -> "list[LineRead | Refused]":

@@ -5,6 +5,7 @@ import random
 import unittest
 
 import film
+from words import TestCase, random_line, read_as
 
 MOST = 11
 
@@ -14,7 +15,7 @@ RECORDED, SPOILT, EITHER = FILLINGS = range(3)
 
 def scan(chance, blots, wrong, filling):
     """A line with so many blots and so many wrong characters outside them: the line, the word that was scanned, and the map."""
-    line = film.encode_line(bytes(chance.randrange(64) for _ in range(50)), chance.randrange(4096))
+    line = random_line(chance)
     word, map = bytearray(line), bytearray(63)
     for i, a in enumerate(chance.sample(range(63), blots + wrong)):
         map[a] = i < blots
@@ -23,22 +24,13 @@ def scan(chance, blots, wrong, filling):
     return line, word, map
 
 
-def read_as(line, word):
-    """What reading a word has to give where it is read as this line."""
-    changed = [a for a in range(63) if line[a] != word[a]]
-    return line, 64 * line[50] + line[51], len(changed), min(changed, default=film.NOWHERE), max(changed, default=film.NOWHERE)
-
-
-class Tests(unittest.TestCase):
+class Tests(TestCase):
     def setUp(self):
         self.chance = random.Random(1)
 
     def refused(self, number, word, map, room=63):
         """The word and the map are refused with this number, and an output of a length is left alone."""
-        out = bytearray([170] * room)
-        with self.assertRaises(film.Refused) as caught:
-            film.read_blotted(word, map, out)
-        self.assertEqual((caught.exception.number, out), (number, bytes([170] * room)))
+        super().refused(number, film.read_blotted, word, map, room=room)
 
     def test_found(self):
         for blots in range(MOST + 1):

@@ -1,4 +1,4 @@
-"""Tests of film.py, but for blots: what each function gives, every refusal by its number, and outputs that stay as they were."""
+"""Tests of film.py, but for blots and the method of 1968: what each function gives, every refusal by its number, and outputs that stay as they were."""
 
 import doctest
 import itertools
@@ -9,21 +9,12 @@ import tempfile
 import unittest
 
 import film
+import words
 
 Z = film.encode_line(bytes(50), 0)
 
 
-class Tests(unittest.TestCase):
-    def refused(self, number, call, *given, room=None):
-        """The call is refused with this number, and an output of that length, if there is one, is left alone."""
-        named = {} if room is None else {"out": bytearray([170] * room)}
-        with self.assertRaises(film.Refused) as caught:
-            call(*given, **named)
-        self.assertEqual(caught.exception.number, number)
-        self.assertTrue(str(caught.exception).startswith(f"refused ({number}): "))
-        if room is not None:
-            self.assertEqual(named["out"], bytes([170] * room))
-
+class Tests(words.TestCase):
     def test_field(self):
         self.assertEqual((film.sum(5, 3), film.product(32, 2), film.product(33, 2)), (6, 3, 1))
         self.assertEqual((film.quotient(1, 2), film.quotient(0, 5)), (33, 0))

@@ -88,6 +88,29 @@ pub fn read_line(word: &[u8], radius: u8, wanted: Option<u16>, out: &mut [u8]) -
     line_read(r)
 }
 
+/// Reads a line by the method of 1968, for a museum. For every input it answers and writes what [`read_line`] does, and takes longer.
+///
+/// ```
+/// let mut line = [0; 63];
+/// film::encode_line(&[7; 50], 65, &mut line)?;
+/// let mut word = line;
+/// for a in [0, 20, 40, 50, 62] {
+///     word[a] ^= 1;
+/// }
+/// let mut out = [0; 63];
+/// let read = film::read_line_paper(&word, 5, Some(65), &mut out)?;
+/// assert_eq!((read.number, read.distance, read.first, read.last), (65, 5, 0, 62));
+/// assert_eq!(out, line);
+/// # Ok::<(), film::Refusal>(())
+/// ```
+pub fn read_line_paper(word: &[u8], radius: u8, wanted: Option<u16>, out: &mut [u8]) -> Result<LineRead, Refusal> {
+    let r = match wanted {
+        None => library::read_line_paper(word, radius, out),
+        Some(number) => library::read_line_paper_wanted(word, radius, number, out),
+    };
+    line_read(r)
+}
+
 /// Reads a line with blots, the characters that the scanner could not see: `map`, 63 bytes, has 1 for a blot and 0 for none. With f blots, `out`, 63 bytes,
 /// gets the line that differs from the word in e characters outside them, 2e + f at most 11; there is never a second one. What stands at a blot, a
 /// character too, has no say in which line that is; the distance and the changed addresses count it as any other. With no blot it is [`read_line`] with

@@ -78,6 +78,8 @@ extern "C" {
     fn film_encode_line(text: *const u8, text_len: usize, number: u16, out: *mut u8, out_len: usize) -> u8;
     fn film_read_line(word: *const u8, word_len: usize, radius: u8, out: *mut u8, out_len: usize) -> Line;
     fn film_read_line_wanted(word: *const u8, word_len: usize, radius: u8, wanted: u16, out: *mut u8, out_len: usize) -> Line;
+    fn film_read_line_paper(word: *const u8, word_len: usize, radius: u8, out: *mut u8, out_len: usize) -> Line;
+    fn film_read_line_paper_wanted(word: *const u8, word_len: usize, radius: u8, wanted: u16, out: *mut u8, out_len: usize) -> Line;
     fn film_read_blotted(word: *const u8, word_len: usize, map: *const u8, map_len: usize, out: *mut u8, out_len: usize) -> Line;
     fn film_read_spool(lines: *const u8, lines_len: usize, radius: u8, out: *mut u8, out_len: usize) -> Spool;
     fn film_better_scan(first: *const u8, first_len: usize, second: *const u8, second_len: usize, radius: u8) -> Choice;
@@ -120,6 +122,14 @@ pub fn read_line(word: &[u8], radius: u8, out: &mut [u8]) -> Line {
 
 pub fn read_line_wanted(word: &[u8], radius: u8, wanted: u16, out: &mut [u8]) -> Line {
     unsafe { film_read_line_wanted(word.as_ptr(), word.len(), radius, wanted, out.as_mut_ptr(), out.len()) }
+}
+
+pub fn read_line_paper(word: &[u8], radius: u8, out: &mut [u8]) -> Line {
+    unsafe { film_read_line_paper(word.as_ptr(), word.len(), radius, out.as_mut_ptr(), out.len()) }
+}
+
+pub fn read_line_paper_wanted(word: &[u8], radius: u8, wanted: u16, out: &mut [u8]) -> Line {
+    unsafe { film_read_line_paper_wanted(word.as_ptr(), word.len(), radius, wanted, out.as_mut_ptr(), out.len()) }
 }
 
 pub fn read_blotted(word: &[u8], map: &[u8], out: &mut [u8]) -> Line {

@@ -1,18 +1,9 @@
 //! Tests of reading a line with blots: every count of blots with every count of wrong characters, what stands at a blot, and the refusals in their order.
 
-use film::{LineRead, Refusal};
+mod words;
 
-const OLD: u8 = 170;
-
-/// Numbers that look like chance, the same in every run.
-struct Chance(u32);
-
-impl Chance {
-    fn below(&mut self, bound: usize) -> usize {
-        self.0 = self.0.wrapping_mul(1664525).wrapping_add(1013904223);
-        (self.0 >> 8) as usize % bound
-    }
-}
+use film::Refusal;
+use words::{read_as, Chance, OLD, WRONG_LENGTHS};
 
 /// A line, the word that was scanned of it, and the map of blots.
 struct Scan {
@@ -33,33 +24,16 @@ const FILLINGS: [Filling; 3] = [Filling::Recorded, Filling::Spoilt, Filling::Eit
 
 /// A line with so many blots, and so many wrong characters outside them.
 fn scan(chance: &mut Chance, blots: usize, wrong: usize, filling: Filling) -> Scan {
-    let mut line = [0; 63];
-    let text: [u8; 50] = core::array::from_fn(|_| chance.below(64) as u8);
-    film::encode_line(&text, chance.below(4096) as u16, &mut line).unwrap();
-    let mut addresses: [usize; 63] = core::array::from_fn(|a| a);
-    for i in 0..blots + wrong {
-        addresses.swap(i, i + chance.below(63 - i));
-    }
+    let line = chance.line();
     let (mut word, mut map) = (line, [0; 63]);
-    for (i, &a) in addresses[..blots + wrong].iter().enumerate() {
+    for (i, a) in chance.addresses(blots + wrong).into_iter().enumerate() {
         let is_blot = i < blots;
         map[a] = is_blot as u8;
         if !is_blot || filling == Filling::Spoilt || filling == Filling::Either && chance.below(2) == 1 {
-            word[a] ^= 1 + chance.below(63) as u8;
+            word[a] ^= chance.error();
         }
     }
     Scan { line, word, map }
-}
-
-/// What reading a word has to give where it is read as this line.
-fn read_as(line: &[u8; 63], word: &[u8; 63]) -> LineRead {
-    let changed: Vec<u8> = (0..63).filter(|&a| line[a as usize] != word[a as usize]).collect();
-    LineRead {
-        number: 64 * line[50] as u16 + line[51] as u16,
-        distance: changed.len() as u8,
-        first: *changed.first().unwrap_or(&film::NOWHERE),
-        last: *changed.last().unwrap_or(&film::NOWHERE),
-    }
 }
 
 /// The word and the map are refused, and an output of a length is left alone.
@@ -100,7 +74,7 @@ fn always_and_never() {
     let mut chance = Chance(3);
     for _ in 0..40 {
         let map = scan(&mut chance, 11, 0, Filling::Recorded).map;
-        let word: [u8; 63] = core::array::from_fn(|_| chance.below(64) as u8);
+        let word = chance.characters();
         let (mut out, mut same) = ([OLD; 63], [OLD; 63]);
         assert_eq!(film::read_blotted(&word, &map, &mut out), Ok(read_as(&out, &word)));
         assert_eq!(film::read_line(&out, 0, None, &mut same).map(|read| read.distance), Ok(0));
@@ -129,7 +103,7 @@ fn no_blots() {
 fn lengths() {
     let (word, mut map) = ([64; 126], [1; 126]);
     map[40] = 2;
-    for length in [0, 1, 62, 64, 126] {
+    for length in WRONG_LENGTHS {
         for room in [62, 63, length] {
             refused(Refusal::InputLength, &word[..length], &map[..63], room);
             refused(Refusal::InputLength, &word[..63], &map[..length], room);

@@ -13,10 +13,12 @@ mod false_starts;
 mod field;
 mod line;
 mod panel;
+mod paper;
 mod ring;
 mod scans;
 mod spool;
 mod twice;
+mod words;
 
 use crate::code::Code;
 
@@ -41,6 +43,8 @@ const PANEL_TEXT: Call = Call(14, "panel_text");
 const PANEL_RING: Call = Call(15, "panel_ring");
 const READ_SPOOL: Call = Call(16, "read_spool");
 const READ_BLOTTED: Call = Call(17, "read_blotted");
+const READ_LINE_PAPER: Call = Call(18, "read_line_paper");
+const READ_LINE_PAPER_WANTED: Call = Call(19, "read_line_paper_wanted");
 
 /// What is handed over: the head's fields, and the input.
 struct Case<'a> {
@@ -113,6 +117,7 @@ pub fn stored() -> (Vec<u8>, String) {
         panel::add_all,
         spool::add_all,
         blots::add_all,
+        paper::add_all,
     ];
     for add_all in sections {
         add_all(&mut cases);

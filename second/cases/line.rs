@@ -1,32 +1,32 @@
 //! Cases of line reading: words of every kind, each with the line that is found by the recurrence of the sums and again by trial.
 
-use super::{Case, Cases, READ_LINE, READ_LINE_WANTED};
-use crate::code::{added, distance, marks, with_errors};
+use super::words::{another_number, between, numbered, planted, try_all, with_faults, with_other_sum, with_sum_0, with_sums, Given, FAULTS};
+use super::{Call, Case, Cases, READ_LINE, READ_LINE_WANTED};
+use crate::code::{added, marks};
 use crate::line::{self, number, random_addresses, random_errors, random_line};
 use crate::random::Random;
 
-pub(super) fn add(cases: &mut Cases, word: &[u8], radius: u8, wanted: Option<u16>, room: usize) {
+/// A word for the first of two calls, or for the second where a number is wanted.
+pub(super) fn add_to(cases: &mut Cases, calls: [Call; 2], word: &[u8], radius: u8, wanted: Option<u16>, room: usize) {
     let (numbers, output) = line::read(&cases.code, word, radius, wanted, room);
-    let call = if wanted.is_some() { READ_LINE_WANTED } else { READ_LINE };
+    let call = calls[wanted.is_some() as usize];
     let case = Case { small: radius, number: wanted.unwrap_or(0), room, ..Case::new(call, word) };
     cases.add(case, &numbers, &output);
 }
 
+pub(super) fn add(cases: &mut Cases, word: &[u8], radius: u8, wanted: Option<u16>, room: usize) {
+    add_to(cases, [READ_LINE, READ_LINE_WANTED], word, radius, wanted, room);
+}
+
 /// A word of 63 characters, whose nearest line is also found by trial.
 pub(super) fn read(cases: &mut Cases, word: &[u8], radius: u8, wanted: Option<u16>) {
-    let tried = cases.code.trial(&cases.code.to_mend(word));
-    match cases.code.nearest(word) {
-        None => assert!(tried.is_none()),
-        Some(line) => assert!((0..63).all(|a| word[a] == line[a] || tried.unwrap().contains(&a))),
-    }
+    try_all(&cases.code, word);
     add(cases, word, radius, wanted, 63);
 }
 
-/// A line with some wrong characters. The line is what is read, where they are five at most.
+/// A line with some wrong characters.
 fn near(cases: &mut Cases, line: &[u8], errors: &[(usize, u8)], radius: u8, wanted: Option<u16>) {
-    let word = with_errors(line, errors);
-    assert_eq!(distance(line, &word), errors.len());
-    assert!(errors.len() > 5 || cases.code.nearest(&word).as_deref() == Some(line));
+    let word = planted(&cases.code, line, errors);
     read(cases, &word, radius, wanted);
 }
 
@@ -75,9 +75,8 @@ fn errors_at_every_radius(cases: &mut Cases, random: &mut Random) {
         for radius in 0..=5 {
             for _ in 0..if errors <= radius { 14 } else { 7 } {
                 let line = random_line(&cases.code, random);
-                let right = number(&line);
-                let another = (right + 1 + random.below(4095) as u16) % 4096;
-                for wanted in [None, Some(right), Some(another)] {
+                let another = another_number(random, &line);
+                for wanted in [None, Some(number(&line)), Some(another)] {
                     let errors = random_errors(random, errors as usize);
                     near(cases, &line, &errors, radius, wanted);
                 }
@@ -138,13 +137,7 @@ fn equal_errors(cases: &mut Cases, random: &mut Random) {
 fn vanishing_sums(cases: &mut Cases, random: &mut Random) {
     for k in 0..11 {
         for count in 2..=5 {
-            let mut errors = random_errors(random, count);
-            while cases.code.error_sums(&errors)[k] != 0 {
-                errors[0].1 = errors[0].1 % 63 + 1;
-                if errors[0].1 == 1 {
-                    errors = random_errors(random, count);
-                }
-            }
+            let errors = with_sum_0(&cases.code, random, k, count);
             let line = random_line(&cases.code, random);
             for radius in [count - 1, count] {
                 near(cases, &line, &errors, radius as u8, None);
@@ -158,12 +151,8 @@ fn one_other_sum(cases: &mut Cases, random: &mut Random) {
     for k in 0..11 {
         for count in 0..=5 {
             for radius in [count as u8, 5] {
-                let mut sums = [0; 11];
-                sums[k] = 1 + random.below(63) as u8;
-                let eleven = random_addresses(random, 11);
-                let errors = random_errors(random, count);
-                let word = with_errors(&random_line(&cases.code, random), &cases.code.solved(&eleven, sums));
-                read(cases, &with_errors(&word, &errors), radius, None);
+                let word = with_other_sum(&cases.code, random, k, count);
+                read(cases, &word, radius, None);
             }
         }
     }
@@ -179,25 +168,17 @@ fn recurrences(cases: &mut Cases, random: &mut Random) {
             let recurrence = if i % 3 == 0 { cases.code.with_roots(&roots) } else { any };
             let sums = cases.code.continued(&random.bytes(length, 64), &recurrence);
             assert!(cases.code.recurrence(&sums).0 <= length);
-            let eleven = random_addresses(random, 11);
-            let word = with_errors(&random_line(&cases.code, random), &cases.code.solved(&eleven, sums));
+            let word = with_sums(&cases.code, random, sums);
             read(cases, &word, 5, None);
         }
     }
 }
 
-/// Words between two lines that differ in twelve characters, as near as two lines can be: so many characters of one and the rest of the other.
+/// Words between two lines: every count of the twelve characters in which they differ is of one.
 fn between_two_lines(cases: &mut Cases, random: &mut Random) {
     for taken in 0..=12 {
         for _ in 0..5 {
-            let line = random_line(&cases.code, random);
-            let twelve = random_addresses(random, 12);
-            let first = (twelve[0], 1 + random.below(63) as u8);
-            let mut errors = cases.code.solved(&twelve[1..], cases.code.error_sums(&[first]));
-            errors.push(first);
-            let other = with_errors(&line, &errors);
-            assert!(distance(&line, &other) == 12 && cases.code.nearest(&other) == Some(other.clone()));
-            let word = with_errors(&line, &errors[..taken]);
+            let (line, word) = between(&cases.code, random, taken);
             read(cases, &word, 5, None);
             read(cases, &word, 4, Some(number(&line)));
         }
@@ -228,10 +209,7 @@ fn marks_and_constants(cases: &mut Cases, random: &mut Random) {
 /// Numbers at their ends, with the characters that hold them right and wrong; wanted numbers over 4095 among them.
 fn wanted_numbers(cases: &mut Cases, random: &mut Random) {
     for carried in [0, 1, 63, 64, 65, 2048, 4032, 4094, 4095] {
-        let mut information = random.bytes(50, 64);
-        information.extend([(carried / 64) as u8, (carried % 64) as u8]);
-        let line = cases.code.line(&information);
-        assert_eq!(number(&line), carried);
+        let line = numbered(&cases.code, random, carried);
         for wanted in [0, 1, 63, 64, 65, 2048, 4032, 4094, 4095, 4096, 4097, 4096 + carried, 32768, 65535] {
             near(cases, &line, &[], 0, Some(wanted));
             let value = 1 + random.below(63) as u8;
@@ -282,17 +260,9 @@ fn wrong_radii(cases: &mut Cases, random: &mut Random) {
 
 /// Everything that is refused, with everything else that is refused: which comes first.
 fn order_of_refusals(cases: &mut Cases, random: &mut Random) {
-    for faults in 0..128 {
-        let has = |fault: u8| faults >> fault & 1 == 1;
-        let line = random_line(&cases.code, random);
-        let errors = random_errors(random, if has(5) { 6 } else { 2 });
-        let mut word = with_errors(&line, &errors);
-        if has(2) {
-            word[random.below(62)] = 64;
-        }
-        word.truncate(if has(0) { 62 } else { 63 });
-        let wanted = if has(4) { number(&line) + 4096 } else { number(&line) ^ has(6) as u16 };
-        add(cases, &word, if has(3) { 6 } else { 3 }, Some(wanted), if has(1) { 64 } else { 63 });
+    for faults in 0..FAULTS {
+        let Given { word, radius, wanted, room } = with_faults(&cases.code, random, faults);
+        add(cases, &word, radius, Some(wanted), room);
     }
 }
 

@@ -1,4 +1,4 @@
-// The calls that read lines, one, one with blots or a spool of them: what is told of a line is printed in one way.
+// The calls that read lines, one, by the method of 1968 too, one with blots or a spool of them: what is told of a line is printed in one way.
 ghost use Prim.Native.Nat.{_≤_};
 use super::print;
 use super::print_bytes;
@@ -11,23 +11,27 @@ const PLACES: usize = 255;
 
 pub fn read_line(word: &[u8], radius: u8, output: &mut [u8]) {
     let given = film::film_read_line(word, radius, output);
-    print(b"read_line");
-    print_reading(given);
-    print_bytes(output);
+    show_reading(b"read_line", given, output);
 }
 
 pub fn read_line_wanted(word: &[u8], radius: u8, wanted: u16, output: &mut [u8]) {
     let given = film::film_read_line_wanted(word, radius, wanted, output);
-    print(b"read_line_wanted");
-    print_reading(given);
-    print_bytes(output);
+    show_reading(b"read_line_wanted", given, output);
+}
+
+pub fn read_line_paper(word: &[u8], radius: u8, output: &mut [u8]) {
+    let given = film::film_read_line_paper(word, radius, output);
+    show_reading(b"read_line_paper", given, output);
+}
+
+pub fn read_line_paper_wanted(word: &[u8], radius: u8, wanted: u16, output: &mut [u8]) {
+    let given = film::film_read_line_paper_wanted(word, radius, wanted, output);
+    show_reading(b"read_line_paper_wanted", given, output);
 }
 
 fn read_blotted(word: &[u8], map: &[u8], output: &mut [u8]) {
     let given = film::film_read_blotted(word, map, output);
-    print(b"read_blotted");
-    print_reading(given);
-    print_bytes(output);
+    show_reading(b"read_blotted", given, output);
 }
 
 // The same of a word and its map that stand one after the other, the word of a length, or of all there is.
@@ -45,6 +49,13 @@ pub fn read_spool(lines: &[u8], radius: u8, output: &mut [u8]) {
     print(b"read_spool");
     print_number(given.answer as u16);
     print_places(places);
+    print_bytes(output);
+}
+
+// Prints a call's name, what it told of a line and the output.
+fn show_reading(name: &[u8], reading: PlainReading, output: &[u8]) {
+    print(name);
+    print_reading(reading);
     print_bytes(output);
 }
 

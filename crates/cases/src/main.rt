@@ -63,6 +63,10 @@ const READ_SPOOL: u8 = 16;
 
 const READ_BLOTTED: u8 = 17;
 
+const READ_LINE_PAPER: u8 = 18;
+
+const READ_LINE_PAPER_WANTED: u8 = 19;
+
 // The length of a head.
 const HEAD: usize = 8;
 
@@ -294,6 +298,8 @@ fn hand_over(call: u8, small: u8, number: u16, input: &[u8], output: &mut [u8]) 
         PANEL_RING => panel_ring(input, small, output),
         READ_SPOOL => lines::read_spool(input, small, output),
         READ_BLOTTED => lines::read_with_map(input, wide(number), output),
+        READ_LINE_PAPER => lines::read_line_paper(input, small, output),
+        READ_LINE_PAPER_WANTED => lines::read_line_paper_wanted(input, small, number, output),
         _ => pass_over(),
     }
 }

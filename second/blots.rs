@@ -5,7 +5,7 @@
 
 use crate::code::{added, marks, with_errors, Code, Sums};
 use crate::interpolation::nearly_through;
-use crate::line::{random_addresses, random_line, refused, told, Answer};
+use crate::line::{random_addresses, random_line, refused, told, with_sums, with_values, Answer};
 use crate::random::Random;
 use crate::refusals;
 use std::array::from_fn;
@@ -99,11 +99,6 @@ pub fn map_of(blots: &[usize]) -> Vec<u8> {
     (0..63).map(|a| blots.contains(&a) as u8).collect()
 }
 
-/// Values that are not 0 at these addresses.
-fn with_values(random: &mut Random, addresses: &[usize]) -> Vec<(usize, u8)> {
-    addresses.iter().map(|&a| (a, 1 + random.below(63) as u8)).collect()
-}
-
 /// A line with so many blots, of which so many hide a wrong character, and so many wrong characters elsewhere. Where that is few enough the line is found.
 pub fn planted(code: &Code, random: &mut Random, blots: usize, hidden: usize, wrong: usize) -> Blotted {
     let addresses = random_addresses(random, blots + wrong);
@@ -133,7 +128,7 @@ pub fn with_root_twice(code: &Code, random: &mut Random, blots: &[usize], wrong:
     let errors = with_values(random, &[blots, wrong].concat());
     let (sums, terms) = (code.error_sums(&errors), code.error_sums(&[(twice, 1 + random.below(63) as u8)]));
     let sums: Sums = from_fn(|k| if k % 2 == 0 { sums[k] ^ terms[k] } else { sums[k] });
-    let word = with_errors(&random_line(code, random), &code.solved(&random_addresses(random, 11), sums));
+    let word = with_sums(code, random, sums);
     let map = map_of(blots);
     assert!(wrong.len() + 1 > most_wrong(blots.len()) || nearest(code, &word, &map).is_none());
     (word, map)

@@ -3,8 +3,9 @@
 //!
 //! tools/compare-library builds and runs it: library ROUNDS [SEED]. Each output lies between two rows of bytes that must stay, and so does each
 //! input, which must stay too. All pairs of operands are tried, every length up to 300, a byte that is too high at every place, and the rows of the
-//! bench sheet; the rest is random, and the same in every run with that seed. second/library/ has the calls of registers, of spools, with blots and for
-//! a panel, and what the change requests speak of. At the end each call must have given each answer that it can give.
+//! bench sheet; the rest is random, and the same in every run with that seed. second/library/ has the calls of lines, in the library's way and in the
+//! paper's, of registers, of spools, with blots and for a panel, and what the change requests speak of. At the end each call must have given each
+//! answer that it can give.
 
 // Of the second program only what answers is called here; what writes the stored files is not.
 #![allow(dead_code)]
@@ -27,6 +28,8 @@ mod line;
 mod panel;
 #[path = "library/panels.rs"]
 mod panels;
+#[path = "library/paper.rs"]
+mod paper;
 mod random;
 mod refusals;
 #[path = "library/registers.rs"]
@@ -55,13 +58,15 @@ use std::process::exit;
 const VERSION: u32 = 4004000;
 
 /// Each call, and every answer that it can give. A spool's line and an unblotted one, a word with no blot, are read alone, by film_read_line.
-const ANSWERS: [(&str, &[u8]); 19] = [
+const ANSWERS: [(&str, &[u8]); 21] = [
     ("sum", &[0, VALUE_OVER]),
     ("product", &[0, VALUE_OVER]),
     ("quotient", &[0, VALUE_OVER, QUOTIENT_BY_ZERO]),
     ("encode_line", &[0, INPUT_LENGTH, VALUE_OVER, NUMBER_OVER, OUTPUT_LENGTH]),
     ("read_line", &[0, INPUT_LENGTH, VALUE_OVER, RADIUS_OVER, OUTPUT_LENGTH, NO_LINE]),
     ("read_line_wanted", &[0, INPUT_LENGTH, VALUE_OVER, RADIUS_OVER, NUMBER_OVER, OUTPUT_LENGTH, NO_LINE, OTHER_NUMBER]),
+    ("read_line_paper", &[0, INPUT_LENGTH, VALUE_OVER, RADIUS_OVER, OUTPUT_LENGTH, NO_LINE]),
+    ("read_line_paper_wanted", &[0, INPUT_LENGTH, VALUE_OVER, RADIUS_OVER, NUMBER_OVER, OUTPUT_LENGTH, NO_LINE, OTHER_NUMBER]),
     ("read_spool", &[0, INPUT_LENGTH, OUTPUT_LENGTH]),
     ("spool_line", &[0, VALUE_OVER, RADIUS_OVER, NO_LINE]),
     ("read_blotted", &[0, INPUT_LENGTH, VALUE_OVER, OUTPUT_LENGTH, NO_LINE]),
@@ -125,18 +130,6 @@ impl Comparison {
         self.call("encode_line", text, &[number as usize], due, |given, out| unsafe {
             vec![film_encode_line(given, text.len(), number, out, room) as usize]
         });
-    }
-
-    fn read_line(&mut self, word: &[u8], radius: u8, wanted: Option<u16>, room: usize) {
-        let due = line::read(&self.code, word, radius, wanted, room);
-        match wanted {
-            None => self.call("read_line", word, &[radius as usize], due, |given, out| unsafe {
-                line_numbers(&film_read_line(given, word.len(), radius, out, room))
-            }),
-            Some(wanted) => self.call("read_line_wanted", word, &[radius as usize, wanted as usize], due, |given, out| unsafe {
-                line_numbers(&film_read_line_wanted(given, word.len(), radius, wanted, out, room))
-            }),
-        }
     }
 
     fn better_scan(&mut self, first: &[u8], second: &[u8], radius: u8) {
@@ -367,6 +360,7 @@ fn main() {
     comparison.spool_counts();
     comparison.refused_among_right();
     comparison.blots();
+    comparison.paper();
     for i in 0..rounds {
         comparison.round(i % 8 == 0);
         if i % 8 == 0 {
@@ -379,6 +373,7 @@ fn main() {
             comparison.panel_rings();
             comparison.any_spool();
             comparison.any_blots();
+            comparison.any_paper();
         }
         if i % 64 == 0 {
             comparison.by_the_character();

@@ -1,6 +1,6 @@
 //! Line reading: the line within the radius of a word is the nearest one, if it is near enough.
 
-use crate::code::{changed, distance, Code};
+use crate::code::{changed, distance, with_errors, Code, Sums};
 use crate::random::Random;
 use crate::refusals;
 
@@ -59,7 +59,18 @@ pub fn random_addresses(random: &mut Random, count: usize) -> Vec<usize> {
     (0..count).map(|_| all.swap_remove(random.below(all.len()))).collect()
 }
 
+/// Values that are not 0 at these addresses.
+pub fn with_values(random: &mut Random, addresses: &[usize]) -> Vec<(usize, u8)> {
+    addresses.iter().map(|&a| (a, 1 + random.below(63) as u8)).collect()
+}
+
 /// So many wrong characters: different addresses, and values that are not 0.
 pub fn random_errors(random: &mut Random, count: usize) -> Vec<(usize, u8)> {
-    random_addresses(random, count).into_iter().map(|a| (a, 1 + random.below(63) as u8)).collect()
+    let addresses = random_addresses(random, count);
+    with_values(random, &addresses)
+}
+
+/// A word in which what is wrong has these sums: a random line with values at eleven addresses, wherever they are.
+pub fn with_sums(code: &Code, random: &mut Random, sums: Sums) -> Vec<u8> {
+    with_errors(&random_line(code, random), &code.solved(&random_addresses(random, 11), sums))
 }

@@ -3,8 +3,8 @@
 //! The sums of what is wrong in such a word follow a recurrence of at most five terms that has a place for its root twice, and no shorter one. Those of
 //! five errors or fewer follow one whose roots are their places, each once. So no line lies within five characters.
 
-use crate::code::{with_errors, Code};
-use crate::line::{random_addresses, random_line};
+use crate::code::Code;
+use crate::line::{random_addresses, with_sums};
 use crate::random::Random;
 
 /// A word whose locator has the first of these addresses for its root twice, and the others once: up to four addresses.
@@ -18,7 +18,7 @@ pub fn word(code: &Code, random: &mut Random, addresses: &[usize]) -> Vec<u8> {
             break sums;
         }
     };
-    let word = with_errors(&random_line(code, random), &code.solved(&random_addresses(random, 11), sums));
+    let word = with_sums(code, random, sums);
     assert_eq!(code.to_mend(&word), sums);
     assert!(code.nearest(&word).is_none());
     word

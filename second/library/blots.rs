@@ -9,7 +9,7 @@ use crate::{line_numbers, Comparison, UNTOUCHED};
 use std::ptr::null_mut;
 
 /// No length, one less than a line's, that of a line, and one more.
-const LENGTHS: [usize; 4] = [0, 62, 63, 64];
+pub const LENGTHS: [usize; 4] = [0, 62, 63, 64];
 
 /// How often each two counts are planted before the rounds.
 const TIMES: usize = 8;
@@ -20,7 +20,7 @@ fn address_of(lent: &mut Lent, length: usize) -> *mut u8 {
 }
 
 /// Bytes cut to a length, or with a zero after them.
-fn of_length(bytes: &[u8], length: usize) -> Vec<u8> {
+pub fn of_length(bytes: &[u8], length: usize) -> Vec<u8> {
     bytes.iter().copied().chain([0]).take(length).collect()
 }
 

@@ -7,6 +7,8 @@
 film_element __real_film_product(uint8_t u, uint8_t v);
 film_element __real_film_quotient(uint8_t u, uint8_t v);
 film_line __real_film_read_line(const uint8_t *word, size_t word_len, uint8_t radius, uint8_t *out, size_t out_len);
+film_line __real_film_read_line_paper(const uint8_t *word, size_t word_len, uint8_t radius, uint8_t *out, size_t out_len);
+film_line __real_film_read_line_paper_wanted(const uint8_t *word, size_t word_len, uint8_t radius, uint16_t wanted, uint8_t *out, size_t out_len);
 film_line __real_film_read_blotted(const uint8_t *word, size_t word_len, const uint8_t *map, size_t map_len, uint8_t *out, size_t out_len);
 film_spool __real_film_read_spool(const uint8_t *lines, size_t lines_len, uint8_t radius, uint8_t *out, size_t out_len);
 film_choice __real_film_better_scan(const uint8_t *first, size_t first_len, const uint8_t *second, size_t second_len, uint8_t radius);
@@ -33,22 +35,88 @@ film_element __wrap_film_quotient(uint8_t u, uint8_t v) {
     return r;
 }
 
+/* A line that was read, and is not found. */
+__attribute__((unused)) static film_line not_found(uint8_t *out) {
+    memset(out, 170, FILM_CHARACTERS);
+    return (film_line){FILM_NO_LINE, 0, 0, 0, 0};
+}
+
 film_line __wrap_film_read_line(const uint8_t *word, size_t word_len, uint8_t radius, uint8_t *out, size_t out_len) {
     film_line r = __real_film_read_line(word, word_len, radius, out, out_len);
 #if FAULT == 1 /* a refusal that writes */
     if (r.answer == FILM_NO_LINE)
         out[62] = 0;
 #elif FAULT == 2 /* a line at distance 5 that is not found */
-    if (r.answer == FILM_DONE && r.distance == 5) {
-        memset(out, 170, 63);
-        r = (film_line){FILM_NO_LINE, 0, 0, 0, 0};
-    }
+    if (r.answer == FILM_DONE && r.distance == 5)
+        r = not_found(out);
 #elif FAULT == 3 /* a word that is no line */
     if (r.answer == FILM_DONE && r.distance == 4)
         out[60] ^= 1;
 #elif FAULT == 12 /* the last changed address is that of the last but one */
     if (r.answer == FILM_DONE && r.distance == 2)
         r.last = r.first;
+#endif
+    return r;
+}
+
+/* Whether each sum of a word is one element times the last but one: then, if no line is within two characters, the locator of two has a root twice. */
+__attribute__((unused)) static int has_root_twice(const uint8_t *word) {
+    uint8_t sums[FILM_CHECKS] = {0}, x = __real_film_quotient(1, 32).value;
+    for (int k = 0; k < FILM_CHECKS; k++, x = __real_film_product(x, 2).value)
+        for (int a = 0; a < FILM_CHARACTERS; a++)
+            sums[k] = __real_film_product(sums[k], x).value ^ word[a] ^ (a == 52 ? 32 : a == 55 ? 8 : a == 62 ? 1 : 0);
+    film_element square = __real_film_quotient(sums[2], sums[0]);
+    int k = 2;
+    while (k < FILM_CHECKS && sums[k] == __real_film_product(square.value, sums[k - 2]).value)
+        k++;
+    return square.answer == FILM_DONE && k == FILM_CHECKS;
+}
+
+film_line __wrap_film_read_line_paper(const uint8_t *word, size_t word_len, uint8_t radius, uint8_t *out, size_t out_len) {
+#if FAULT == 33 /* one error fewer is tried */
+    radius -= radius > 0 && radius < 6;
+#endif
+    film_line r = __real_film_read_line_paper(word, word_len, radius, out, out_len);
+#if FAULT == 34 /* a refusal that clears the output */
+    if (r.answer == FILM_NO_LINE)
+        memset(out, 0, FILM_CHARACTERS);
+#elif FAULT == 35 /* the distance of five errors is one too high */
+    r.distance += r.distance == 5;
+#elif FAULT == 36 /* the last changed address is given for the first */
+    r.first = r.last;
+#elif FAULT == 37 /* two errors are not found where S_0 is 0, since they are equal */
+    if (r.answer == FILM_DONE && r.distance == 2 && (word[r.first] ^ out[r.first]) == (word[r.last] ^ out[r.last]))
+        r = not_found(out);
+#elif FAULT == 38 /* one error is not found at the last address, where the logarithm of its place is 0 */
+    if (r.answer == FILM_DONE && r.distance == 1 && r.first == FILM_CHARACTERS - 1)
+        r = not_found(out);
+#elif FAULT == 39 /* a root twice is taken for two errors that cancel, and the sums are not taken again */
+    if (r.answer == FILM_NO_LINE && radius > 1 && has_root_twice(word)) {
+        memcpy(out, word, FILM_CHARACTERS);
+        r = (film_line){FILM_DONE, 0, (uint16_t)(word[50] * 64 + word[51]), FILM_NOWHERE, FILM_NOWHERE};
+    }
+#endif
+    return r;
+}
+
+film_line __wrap_film_read_line_paper_wanted(const uint8_t *word, size_t word_len, uint8_t radius, uint16_t wanted, uint8_t *out, size_t out_len) {
+#if FAULT == 40 /* the wanted number is passed over */
+    if (wanted < 4096)
+        return __real_film_read_line_paper(word, word_len, radius, out, out_len);
+#elif FAULT == 41 /* the lowest twelve bits of the wanted number are taken for it */
+    wanted %= 4096;
+#elif FAULT == 42 /* one byte too many is read of the word */
+    if (word_len != 0)
+        (void)((const volatile uint8_t *)word)[word_len];
+#endif
+    film_line r = __real_film_read_line_paper_wanted(word, word_len, radius, wanted, out, out_len);
+#if FAULT == 43 /* a line that carries another number is refused and written */
+    if (r.answer == FILM_OTHER_NUMBER)
+        __real_film_read_line_paper(word, word_len, radius, out, out_len);
+#elif FAULT == 44 /* no line comes before a number over 4095 */
+    uint8_t line[FILM_CHARACTERS];
+    if (r.answer == FILM_NUMBER_OVER)
+        r.answer = __real_film_read_line_paper(word, word_len, radius, line, sizeof line).answer == FILM_NO_LINE ? FILM_NO_LINE : FILM_NUMBER_OVER;
 #endif
     return r;
 }
@@ -112,10 +180,8 @@ film_line __wrap_film_read_blotted(const uint8_t *word, size_t word_len, const u
         outside(map, word, line) + blots_of(map) <= FILM_CHECKS)
         r = __real_film_read_line(word, word_len, 5, out, out_len);
 #elif FAULT == 30 /* 2e + f at most 10 */
-    if (r.answer == FILM_DONE && 2 * outside(map, word, out) + blots_of(map) == FILM_CHECKS) {
-        memset(out, 170, FILM_CHARACTERS);
-        r = (film_line){FILM_NO_LINE, 0, 0, 0, 0};
-    }
+    if (r.answer == FILM_DONE && 2 * outside(map, word, out) + blots_of(map) == FILM_CHECKS)
+        r = not_found(out);
 #elif FAULT == 31 /* a refusal that clears the blots in the output */
     for (int a = 0; r.answer == FILM_NO_LINE && a < FILM_CHARACTERS; a++)
         out[a] = map[a] == 1 ? 0 : out[a];

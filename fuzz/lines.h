@@ -1,10 +1,11 @@
-/* The calls of reading lines and scans. */
+/* The calls of reading lines, in the paper's way too, and scans. */
 #ifndef LINES_H
 #define LINES_H
 
 #include "answers.h"
 #include "film.h"
 #include "lent.h"
+#include "paper.h"
 #include "rules.h"
 #include "taken.h"
 #include <string.h>
@@ -38,21 +39,24 @@ static film_line read_line(const made *m, size_t length, uint8_t radius, size_t 
     return r;
 }
 
-static void read_line_calls(void) {
+/* Reads a word, which `taken` takes, with no wanted number and with one, and each time in the paper's way too. */
+static void read_taken(made (*taken)(void)) {
     size_t length = take_length(63), room = take_length(63);
     uint8_t radius = take() % 8, place = take();
     uint16_t wanted = take_two();
     if (place & 64)
         wanted %= 4096;
-    made m = take_word();
+    made m = taken();
     uint8_t line[63], same[63];
     film_line r = read_line(&m, length, radius, room, place, line);
+    same_by_paper(r, m.word, length, radius, ANY_NUMBER, room, place);
     if (place & 128)
         wanted = r.number;
 
     /* a radius more or less changes nothing but which lines are near enough */
     if (r.answer == 0 || r.answer == 6) {
         film_line widest = read_line(&m, 63, 5, 63, place, same);
+        same_by_paper(widest, m.word, 63, 5, ANY_NUMBER, 63, place);
         HOLDS(r.answer == (widest.answer == 0 && widest.distance <= radius ? 0 : 6));
         HOLDS(r.answer != 0 || memcmp(line, same, 63) == 0);
     }
@@ -67,7 +71,11 @@ static void read_line_calls(void) {
         HOLDS(w.number == 0 && w.distance == 0 && w.first == 0 && w.last == 0);
     else
         HOLDS(memcmp(&w, &r, sizeof r) == 0 && memcmp(bytes_of(&output), line, 63) == 0);
+    same_by_paper(w, m.word, length, radius, wanted, room, place);
 }
+
+static void read_line_calls(void) { read_taken(take_word); }
+static void recurrence_calls(void) { read_taken(take_recurrence); }
 
 /* Two scans, of one line half of the time: each is read first, and the better is the one that is read with the smaller distance. */
 static void scan_calls(void) {
@@ -93,6 +101,7 @@ static void read_made(const made *m, int apart, uint8_t radius, uint8_t place) {
     uint8_t line[63];
     film_line r = read_line(m, 63, radius, 63, place, line);
     HOLDS(r.answer == (apart <= radius ? 0 : 6) && (r.answer != 0 || r.distance == apart));
+    same_by_paper(r, m->word, 63, radius, ANY_NUMBER, 63, place);
 }
 
 /* Lines merged by exclusive or: three are a line, and two lack the marks of one. */

@@ -65,6 +65,31 @@ static made take_word(void) {
     return m;
 }
 
+/* Any line, and added to it a word whose sums follow a recurrence of up to five terms. The recurrence's roots are taken: places, one of them twice at times, or
+ * 0, which is none. So are the first sums, some of which are 0. The word has at each place X the sum of S_j X^-j, and so the sums S_j. */
+static made take_recurrence(void) {
+    made m = {{0}, {0}, 0};
+    uint8_t terms = take() % 6, zeros = take() % 6, root = 0, locator[6] = {1}, sums[FILM_CHECKS] = {0};
+    for (int n = 1; n <= terms; n++) {
+        uint8_t how = take();
+        root = how < 192 ? how & 63 : root;
+        for (int k = n; k > 0; k--)
+            locator[k] = locator[k - 1] ^ product(root, locator[k]);
+        locator[0] = product(root, locator[0]);
+    }
+    for (int k = 0; k < FILM_CHECKS; k++)
+        if (k < terms)
+            sums[k] = k < zeros ? 0 : take() & 63;
+        else
+            for (int i = 0; i < terms; i++)
+                sums[k] ^= product(locator[i], sums[k - terms + i]);
+    take_line(m.word);
+    for (int a = 0; a < FILM_CHARACTERS; a++)
+        for (int k = 0; k < FILM_CHECKS; k++)
+            m.word[a] ^= product(sums[k], power[(63 + 5 - k) * (62 - a) % 63]);
+    return m;
+}
+
 /* A kind of text: plain half of the time, a template in a quarter of it. */
 static uint8_t take_kind(uint8_t mask) {
     uint8_t how = take();

@@ -1,6 +1,6 @@
 /* The fuzz target: every function of include/film.h on hostile bytes, each answer and each output byte held against plain C.
- * rules.h has the rules; the calls stand in encoding.h, lines.h, blots.h, spool.h, rings.h, panel.h and blocks.h, and each works
- * out what it can of the answer first, in the order of the refusals.
+ * rules.h has the rules; the calls stand in encoding.h, lines.h, paper.h, blots.h, spool.h, rings.h, panel.h and blocks.h, and each
+ * works out what it can of the answer first, in the order of the refusals; those of paper.h have to give what those of lines.h gave.
  *
  * fuzz/run builds it with libFuzzer and the address and undefined-behaviour sanitizers, and runs it. The library is linked as it
  * is proved, so the sanitizers do not see into it. Its slices therefore lie against pages that nobody may touch: the input ends
@@ -14,6 +14,7 @@
 #include "lent.h"
 #include "lines.h"
 #include "panel.h"
+#include "paper.h"
 #include "rings.h"
 #include "rules.h"
 #include "spool.h"
@@ -34,7 +35,7 @@ int LLVMFuzzerInitialize(int *argc, char ***argv) {
 }
 
 int LLVMFuzzerTestOneInput(const uint8_t *data, size_t size) {
-    static void (*const calls[])(void) = {field_calls, register_calls, encode_line_call, read_line_calls, scan_calls, merged_call,
+    static void (*const calls[])(void) = {field_calls, register_calls, encode_line_call, read_line_calls, recurrence_calls, scan_calls, merged_call,
                                           moved_call, blots_call, spool_call, ring_calls, panel_text_call, panel_ring_call, block_calls};
     next = data;
     left = size;

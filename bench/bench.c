@@ -38,6 +38,10 @@ static void ours_read(const uint8_t *input, uint8_t radius, reply *r) {
     ours_line(film_read_line(input, 63, radius, r->out, 63), r);
 }
 
+static void ours_paper(const uint8_t *input, uint8_t radius, reply *r) {
+    ours_line(film_read_line_paper(input, 63, radius, r->out, 63), r);
+}
+
 static void ours_blotted(const uint8_t *input, uint8_t radius, reply *r) {
     (void)radius;
     ours_line(film_read_blotted(input, 63, input + 63, 63, r->out, 63), r);
@@ -101,7 +105,7 @@ enum { LINES = 128, RINGS = 4, SPOOLS = 8, OURS = 0, FEC = 1, SECOND = 2, PEERS 
 
 static const char *const peer_names[PEERS] = {"film", "libfec", "second"};
 
-typedef enum { ENCODE, READ, SCANS, RING, NOISE, BLOCK, FIELD, PANEL, PANEL_RING, SPOOL, BLOTS, CLEAN_BLOTS } kind;
+typedef enum { ENCODE, READ, SCANS, RING, NOISE, BLOCK, FIELD, PANEL, PANEL_RING, SPOOL, BLOTS, CLEAN_BLOTS, NOISE_LINE } kind;
 
 /* Lines with one error in a spool of the mix. Table 1 of source document 001 has 849,085 single errors in 108,366,272 lines: 1.998 in 255. More errors than
  * one have 9,116 of its lines, 0.021 in 255 and 0.17 in the row's eight spools: nearest to that is none. */
@@ -146,6 +150,14 @@ static row rows[] = {
     {"blots_8", BLOTS, 1, 8, 0, {ours_blotted, fec_blotted, second_blotted}, NULL, {0}},
     {"blots_11", BLOTS, 0, 11, 0, {ours_blotted, fec_blotted, second_blotted}, NULL, {0}},
     {"blots_clean", CLEAN_BLOTS, 0, 4, 0, {ours_blotted, fec_blotted, second_blotted}, NULL, {0}},
+    /* the paper's way stands in the place of libfec, beside our own, so that the ratio is its time over ours */
+    {"paper_0", READ, 0, 0, 5, {ours_read, ours_paper, second_read}, NULL, {0}},
+    {"paper_1", READ, 1, 0, 5, {ours_read, ours_paper, second_read}, NULL, {0}},
+    {"paper_2", READ, 2, 0, 5, {ours_read, ours_paper, second_read}, NULL, {0}},
+    {"paper_3", READ, 3, 0, 5, {ours_read, ours_paper, second_read}, NULL, {0}},
+    {"paper_4", READ, 4, 0, 5, {ours_read, ours_paper, second_read}, NULL, {0}},
+    {"paper_5", READ, 5, 0, 5, {ours_read, ours_paper, second_read}, NULL, {0}},
+    {"paper_noise_refused", NOISE_LINE, 0, 0, 5, {ours_read, ours_paper, second_read}, NULL, {0}},
 };
 
 enum { ROWS = sizeof rows / sizeof rows[0] };
@@ -190,6 +202,7 @@ static void make_word(const row *w, uint8_t *word) {
     switch (w->of) {
     case ENCODE:
     case NOISE:
+    case NOISE_LINE:
     case FIELD:
         return;
     case PANEL:

@@ -1,5 +1,6 @@
 -- `paper::nearest` meets its contract: no line differs in fewer characters than are assumed.
 use Prim.Native.Nat.{_+_, _-_, _≤_}
+use native.Mathlib.Omega.{arith}
 use borrow.Author.Needs.{needs}
 use Rattle.paper.proofs.Reading.{MissedTo, missed-none, missed-more, nearest-found, nearest-none}
 use Rattle.paper.proofs.nearest.Statement.{statement}
@@ -15,7 +16,7 @@ loop-holds : tie.Need-loop-holds Inv-loop μ-loop
 loop-holds c = search (missed-none, needs)
 
 returns : tie.Need-returns Inv-loop μ-loop
-returns c = search (nearest-found, needs)
+returns c = nearest-found _ _ _ _ _ _ (search needs) (omega arith) (search needs) (c .before .before .before .before .attempt .ensures) (search needs) (search needs) (search needs)
 
 loop-again : tie.Need-loop-again Inv-loop μ-loop
 loop-again c = search (missed-more, needs)

@@ -11,7 +11,6 @@ use lib.Seq.{getD-drop}
 use Rattle.numbers.specs.Total.{total}
 use Rattle.numbers.proofs.Cases.{le-or-lt, same-or-not, pos-of-not-zero}
 use Rattle.numbers.proofs.Totals.{total-same}
-use Rattle.refusal.specs.Promise.{Tells}
 use Rattle.field.specs.Field.{sum, product, α, power}
 use Rattle.field.proofs.Laws
 use Rattle.field.proofs.Totals.{total-next}
@@ -24,16 +23,14 @@ use Rattle.polynomial.proofs.Division.{poly-small}
 use Rattle.polynomial.proofs.Supported.{split-supported, weight-degree, not-singular}
 use Rattle.code.specs.Word.{Characters, powerSum, marks, Line, distance, added, listed}
 use Rattle.code.proofs.Words.{same-word, listed-long, listed-get, length-added, added-get, characters-added}
-use Rattle.code.proofs.Sums.{places, places-long, places-get, places-good, values-63, moment-total, powerSum-lt, powerSum-mod, powerSum-added, powerSum-moment}
+use Rattle.code.proofs.Sums.{places, places-get, places-good, values-63, moment-total, powerSum-lt, powerSum-mod, powerSum-added, powerSum-moment}
 use Rattle.code.proofs.Distances.{weight-le, distance-weight}
 use Rattle.code.proofs.Lines.{line-long, line-characters, line-sums}
-use Rattle.mender.proofs.Finding.{true-false}
 use Rattle.matrix.specs.declared.Solution.{Solution}
-use Rattle.matrix.specs.System.{at, dot, Null, Regular, entry, Solves}
+use Rattle.matrix.specs.System.{at, dot, Regular, entry, Solves}
 use Rattle.locations.specs.declared.Locations.{Locations}
 use Rattle.locations.specs.Roots.{Finds}
-use Rattle.paper.specs.declared.Tried.{Tried}
-use Rattle.paper.specs.Inside.{ErrorsHave, SumRows, PowerRows, Corrects, Attempts}
+use Rattle.paper.specs.Inside.{ErrorsHave, SumRows, PowerRows, Corrects}
 
 -- ---- totals, and lists of n numbers
 
@@ -71,8 +68,8 @@ dot-same : (n : ℕ) (u q p : ℕ → ℕ) → ((k : ℕ) → q k ≡ p k) → d
 unfolding dot
 dot-same n u q p e = total-same (suc n) (λ k. product (u k) (q k)) (λ k. product (u k) (p k)) (λ k _. ap (product (u k)) (e k))
 
--- what does not hold is told to be false
-told-true : (b : Bool) → (b ≡ false → ⊥) → b ≡ true
+-- what is not false is true
+pub told-true : (b : Bool) → (b ≡ false → ⊥) → b ≡ true
 told-true true f = refl
 told-true false f = absurd (f refl)
 

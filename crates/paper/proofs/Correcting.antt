@@ -74,7 +74,7 @@ module _ (w xs vs : List ℕ) (n : ℕ) (r : List ℕ) (k l : ℕ) (t : Correcte
   c : ℕ
   c = bitXor (getD r (62 - l) 0) (getD vs k 0)
 
-  pub address-inside : 62 - l < 63
+  address-inside : 62 - l < 63
   address-inside = omega arith
 
   inside : a < length r

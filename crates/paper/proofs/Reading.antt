@@ -24,7 +24,7 @@ use Rattle.line.specs.Inside.{Fit, Answers}
 use Rattle.line.proofs.Reading.{answered-reads}
 use Rattle.paper.specs.declared.Tried.{Tried}
 use Rattle.paper.specs.Inside.{ErrorsHave, SumRows, PowerRows, Corrects, Attempts}
-use Rattle.paper.proofs.Assumed.{solved, found, the-line}
+use Rattle.paper.proofs.Assumed.{told-true, solved, found, the-line}
 
 -- ---- an attempt
 
@@ -64,7 +64,7 @@ module _ (w s : List ℕ) (n : ℕ) (few : n ≤ 5) (word : Word w) (have : Erro
               line = tells .holds;
               near = λ _. corrects .near;
               exact = λ l line apart.
-                  told b
+                  told-true b
                   (λ q.
                   tells .fails q
                   (subst Line
@@ -73,10 +73,6 @@ module _ (w s : List ℕ) (n : ℕ) (few : n ≤ 5) (word : Word w) (have : Erro
                   (whole n m' magnitudes few solves') r corrects))
                   line));
             }
-          where
-            told : (b : Bool) → (b ≡ false → ⊥) → b ≡ true
-            told true f = refl
-            told false f = absurd (f refl)
 
 -- what was found are places
 pub roots-places : (m : List (List ℕ)) (n : ℕ) (functions : Solution) (located : Locations) → n ≤ 5 → Solves (min n 5) m functions → functions .found ≡ true

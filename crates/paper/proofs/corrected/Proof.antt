@@ -1,7 +1,7 @@
 -- `paper::corrected` meets its contract: each magnitude is added at the address of its place.
 use Prim.Native.Nat.{_-_}
 use borrow.Author.Needs.{needs}
-use Rattle.paper.proofs.Correcting.{CorrectedTo, corrected-none, address-inside, corrected-again, corrected-all}
+use Rattle.paper.proofs.Correcting.{CorrectedTo, corrected-none, corrected-again, corrected-all}
 use Rattle.paper.proofs.corrected.Statement.{statement}
 use Rattle.paper.proofs.corrected.Tie as tie
 

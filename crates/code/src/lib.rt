@@ -57,7 +57,7 @@ fn has_sums(word: &[u8], sums: [u8; 11]) -> bool
 }
 
 // The value at x of characters as a polynomial, the first its highest coefficient, by Horner's rule: of each the low six bits count.
-pub fn value_at(word: &[u8], x: u8) -> u8
+fn value_at(word: &[u8], x: u8) -> u8
     ensures { λ r. ⌜ r ≡ valueAt x (now (word .entry)) ⌝ }
 {
     let mut v: u8 = 0;

@@ -1,19 +1,23 @@
 -- What the loops of the paper's way do, a turn and a way out at a time, over plain variables: the sums and the two systems.
 use mathlib.Core.Path.{_≡_, refl, sym, ap, ap₂, _∙_, subst}
+use mathlib.Core.Bool.{true, false}
 use mathlib.Core.List.{List, []}
-use Prim.Native.Nat.{ℕ, suc, _+_, _-_, _<_, _≤_}
+use Prim.Native.Nat.{ℕ, suc, _+_, _-_, _%_, _<_, _≤_}
 use native.Mathlib.Numerals.{add-one}
 use native.Mathlib.Omega.{arith}
 use borrow.Author.Count.{below-none, below-more}
 use lib.Bits.{bitXor}
 use lib.ListN.{length, getD, set, length-set}
 use lib.Seq.{getD-set-same, getD-set-other}
+use Rattle.refusal.specs.Promise.{Tells}
+use Rattle.refusal.proofs.Laws.{tells-yes, tells-no}
 use Rattle.field.specs.Field.{sum, product, α, power}
 use Rattle.polynomial.specs.Polynomial.{valueAt}
 use Rattle.code.specs.Word.{powerSum, marks}
 use Rattle.code.specs.Inside.{PowerSums}
 use Rattle.code.proofs.Sums.{powerSum-value}
-use Rattle.code.proofs.Loops.{first-point}
+use Rattle.code.proofs.Loops.{first-point, ValueTo, value-again, value-all}
+use Rattle.mender.specs.Found.{Clear}
 use Rattle.paper.specs.Inside.{ErrorsHave, SumRow, SumRows, PowerRow, PowerRows}
 
 -- ---- the power sums
@@ -60,6 +64,32 @@ summed-again w ms s x y v k t h e f =
 
 pub summed-all : (w ms s : List ℕ) (x k : ℕ) → SummedTo w ms s x k → 11 ≤ k → ErrorsHave w s
 summed-all w ms s x k t h = record { sum-at = λ i l. t .done i (omega arith) }
+
+-- one turn of a circuit, as the code of words has it
+pub circuit-again : (w : List ℕ) (x v u a : ℕ) → ValueTo w x v a → length w ≡ 63 → a < 63 → u ≡ product v x → ValueTo w x (bitXor u (getD w a 0 % 64)) (a + 1)
+unfolding sum
+circuit-again w x v u a t l h e = value-again w x v u (bitXor u (getD w a 0 % 64)) a t (omega arith) e refl
+
+pub circuit-all : (w : List ℕ) (x v a : ℕ) → ValueTo w x v a → length w ≡ 63 → 63 ≤ a → v ≡ valueAt x w
+circuit-all w x v a t l h = value-all w x v a t (omega arith)
+
+-- ---- whether they are all 0
+
+pub record ZerosTo (s : List ℕ) (i : ℕ) : Type 0 where
+  pub most : i ≤ 11
+  pub passed : (k : ℕ) → k < i → getD s k 0 ≡ 0
+
+pub zeros-none : (s : List ℕ) → ZerosTo s 0
+zeros-none s = record { most = omega arith; passed = below-none (λ k. getD s k 0 ≡ 0) }
+
+pub zeros-again : (s : List ℕ) (i : ℕ) → ZerosTo s i → i < 11 → getD s i 0 ≡ 0 → ZerosTo s (i + 1)
+zeros-again s i t h e = record { most = omega arith; passed = below-more (λ k. getD s k 0 ≡ 0) i (t .passed) e }
+
+pub zeros-all : (s : List ℕ) (i : ℕ) → ZerosTo s i → 11 ≤ i → Tells (Clear s) true
+zeros-all s i t h = tells-yes (record { zero = λ k l. t .passed k (omega arith) })
+
+pub zeros-not : (s : List ℕ) (i : ℕ) → i < 11 → (getD s i 0 ≡ 0 → ⊥) → Tells (Clear s) false
+zeros-not s i h d = tells-no (λ c. d (c .zero i h))
 
 -- ---- the system of the sums
 

@@ -9,11 +9,15 @@ use borrow.Author.Tests.{not-false}
 use lib.ListN.{length, drop, replicate}
 use Rattle.numbers.proofs.Cases.{same-or-not}
 use Rattle.refusal.specs.Promise.{Tells}
+use Rattle.field.specs.Field.{sum}
+use Rattle.field.proofs.Laws
 use Rattle.polynomial.specs.Sums.{Places}
 use Rattle.polynomial.specs.Polynomial.{Elements}
-use Rattle.code.specs.Word.{Characters, Line, distance, firstChanged, lastChanged}
+use Rattle.code.specs.Word.{Characters, powerSum, marks, Line, distance, firstChanged, lastChanged}
+use Rattle.code.proofs.Lines.{line-sums, sums-line}
 use Rattle.mender.specs.declared.Mended.{Mended}
 use Rattle.mender.specs.Mender.{Word, Nearest}
+use Rattle.mender.specs.Found.{Clear}
 use Rattle.matrix.specs.declared.Solution.{Solution}
 use Rattle.matrix.specs.System.{Solves}
 use Rattle.locations.specs.declared.Locations.{Locations}
@@ -25,6 +29,20 @@ use Rattle.line.proofs.Reading.{answered-reads}
 use Rattle.paper.specs.declared.Tried.{Tried}
 use Rattle.paper.specs.Inside.{ErrorsHave, SumRows, PowerRows, Corrects, Attempts}
 use Rattle.paper.proofs.Assumed.{told-true, solved, found, the-line}
+
+-- ---- the recheck
+
+-- a word is a line where its sums and those of the marks, added, are all 0
+line-by-zeros : (r s : List ℕ) (b : Bool) → length r ≡ 63 → Characters r → ErrorsHave r s → Tells (Clear s) b → Tells (Line r) b
+line-by-zeros r s b long characters have clear =
+    record {
+      holds = λ q.
+          sums-line r long characters
+          (λ k h. Laws.sum-eq (powerSum (58 + k) r) (powerSum (58 + k) marks) (sym (have .sum-at k h) ∙ clear .holds q .zero k h));
+      fails = λ q line.
+          clear .fails q
+          (record { zero = λ k h. have .sum-at k h ∙ ap (λ (v : ℕ). sum v (powerSum (58 + k) marks)) (line-sums r line k h) ∙ Laws.sum-self (powerSum (58 + k) marks) });
+    }
 
 -- ---- an attempt
 
@@ -57,7 +75,10 @@ module _ (w s : List ℕ) (n : ℕ) (few : n ≤ 5) (word : Word w) (have : Erro
           (sym (found w s l n few (word .long) (word .characters) have line apart m rows functions (whole n m functions few solves) located finds) ∙ q))
 
       module _ (m' : List (List ℕ)) (rows' : PowerRows (located .roots) s n m') (magnitudes : Solution) (solves' : Solves (min n 5) m' magnitudes) (r : List ℕ)
-          (corrects : Corrects w (located .roots) (magnitudes .unknowns) n r) (b : Bool) (tells : Tells (Line r) b) where
+          (corrects : Corrects w (located .roots) (magnitudes .unknowns) n r) (again : List ℕ) (have' : ErrorsHave r again) (b : Bool) (clear : Tells (Clear again) b) where
+        tells : Tells (Line r) b
+        tells = line-by-zeros r again b (corrects .long) (corrects .characters) have' clear
+
         pub rechecked : Attempts w n (record { found = b; line = r })
         rechecked =
             record {

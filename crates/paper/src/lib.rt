@@ -2,11 +2,13 @@
 ghost use mathlib.Core.Path.{_≡_};
 ghost use Prim.Native.Nat.{_+_, _-_, _<_, _≤_};
 ghost use lib.ListN.{length, drop};
+ghost use Rattle.refusal.specs.Promise.{Tells};
 ghost use Rattle.field.specs.Field.{power};
 ghost use Rattle.polynomial.specs.Sums.{Places};
-ghost use Rattle.polynomial.specs.Polynomial.{Elements};
+ghost use Rattle.polynomial.specs.Polynomial.{valueAt, Elements};
 ghost use Rattle.code.specs.Word.{Line, firstChanged, lastChanged};
 ghost use Rattle.mender.specs.Mender.{Word, Nearest};
+ghost use Rattle.mender.specs.Found.{Clear};
 ghost use Rattle.line.specs.Promises.{readingNumbers, Reads};
 ghost use Rattle.paper.specs.Inside.{ErrorsHave, SumRow, SumRows, PowerRow, PowerRows, Corrects, Attempts};
 use line::LineReading;
@@ -122,7 +124,7 @@ fn attempt(word: [u8; 63], sums: [u8; 11], n: usize) -> Tried
     let line = corrected(word, places, values, n);
     // "After all of the corrections have been made, the line must be rechecked by recomputing the power sums."
     Tried {
-        found: code::is_line(&line),
+        found: all_zero(power_sums(line)),
         line: line,
     }
 }
@@ -137,11 +139,38 @@ fn power_sums(word: [u8; 63]) -> [u8; 11]
     let mut x = FIRST_POINT;
     let mut k: usize = 0;
     while k < 11 {
-        sums[k] = code::value_at(&word, x) ^ marks[k];
+        sums[k] = circuit(word, x) ^ marks[k];
         x = places::times(ALPHA, x);
         k += 1;
     }
     sums
+}
+
+// The S_i calculating circuit of Figure 4: what it holds is multiplied by α^i, which is x, and each character is added as it comes.
+fn circuit(word: [u8; 63], x: u8) -> u8
+    ensures { λ r. ⌜ r ≡ valueAt x word ⌝ }
+{
+    let mut v: u8 = 0;
+    let mut a: usize = 0;
+    while a < 63 {
+        v = places::times(v, x) ^ word[a] % 64;
+        a += 1;
+    }
+    v
+}
+
+// 001: "If they are all zero and the line number is correct, the line is considered to be corrected."
+fn all_zero(sums: [u8; 11]) -> bool
+    ensures { λ r. ⌜ Tells (Clear sums) r ⌝ }
+{
+    let mut i: usize = 0;
+    while i < 11 {
+        if sums[i] != 0 {
+            return false;
+        }
+        i += 1;
+    }
+    true
 }
 
 // The equations that relate the elementary symmetric functions to the power sums S_(1-n) to S_n: "Two power sums are required per error to be

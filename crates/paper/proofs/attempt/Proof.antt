@@ -30,6 +30,6 @@ attempt-spec =
     (λ c κs. search needs)
     (λ c κs. search needs)
     corrected-requires
-    (λ c. search needs)
+    (λ c κs. search needs)
     (λ c κs. search needs)
     returns-3)

@@ -28,7 +28,6 @@ power-sums-spec =
     μ-loop
     (λ c κs. search needs)
     loop-holds
-    (λ c. search needs)
     (λ c κs. search needs)
     (λ c. search needs)
     (λ c. search needs)

@@ -103,7 +103,7 @@ wanted-of : (wanted : Wanted) (l : List ℕ) (n : ℕ) → n ≡ number l → Ca
 wanted-of W.Any l n e c = tt
 wanted-of (W.Number m) l n e c = e ∙ c
 
-wanted-or-not : (wanted : Wanted) (n : ℕ) → IsWanted wanted n ⊎ (IsWanted wanted n → ⊥)
+pub wanted-or-not : (wanted : Wanted) (n : ℕ) → IsWanted wanted n ⊎ (IsWanted wanted n → ⊥)
 wanted-or-not W.Any n = inl tt
 wanted-or-not (W.Number m) n = same-or-not n m
 

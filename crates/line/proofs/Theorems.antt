@@ -1,12 +1,15 @@
 -- The theorems of line reading: it yields the line within the radius, refuses for want of one exactly when there is none, tells where the word was changed, and allows one result.
 use mathlib.Core.Path.{_≡_, refl, sym, ap, ap₂, _∙_, subst}
+use mathlib.Core.Bool.{Bool, true, false}
 use mathlib.Core.Logic.{⊎-elim}
 use mathlib.Core.List.{List, [], _∷_}
 use Prim.Native.Nat.{ℕ, min, _≤_}
 use native.Mathlib.Omega.{arith}
 use lib.ListN.{length, getD}
 use Rattle.numbers.proofs.Cases.{same-or-not}
-use Rattle.refusal.proofs.Laws.{one-refusal, refusal-positive, passed}
+use Rattle.refusal.specs.declared.Refusal.{Refusal}
+use Rattle.refusal.specs.Number.{numberOf}
+use Rattle.refusal.proofs.Laws.{one-refusal, one-answer, refusal-positive, passed}
 use Rattle.refusal.proofs.Ladder.{_then_, denied}
 use Rattle.refusal.proofs.Theorems.{one-result, same-numbers}
 use Rattle.code.specs.Word.{Characters, Line, number, distance, nowhere, firstChanged, lastChanged, marks, added}
@@ -21,8 +24,8 @@ use Rattle.line.specs.declared.LineReading.{LineReading}
 use Rattle.line.specs.declared.LineReading.the-variants as R
 use Rattle.line.specs.declared.PlainReading.{PlainReading}
 use Rattle.line.specs.Promises.{readingNumbers, plainNumbers, Within, Readable, readingTests, told, ReadAs, Reads}
-use Rattle.line.specs.Inside.{NearestLine, ErrorSums, Writes}
-use Rattle.line.proofs.Reading.{refused, read}
+use Rattle.line.specs.Inside.{Fit, RefusedFirst, NearestLine, ErrorSums, lowNumber, IsWanted, Writes, Answers}
+use Rattle.line.proofs.Reading.{wanted-or-not, refused, read}
 
 -- if a line lies within t it is the only one
 pub one-within : (t : ℕ) (w l m : List ℕ) → length w ≡ 63 → t ≤ 5 → Within t w l → Within t w m → l ≡ m
@@ -143,3 +146,22 @@ one-error-sums w d e p q =
 -- and any two results of writing a line
 pub one-written : (line old x y : List ℕ) → Writes line old x → Writes line old y → x ≡ y
 one-written line old x y p q = ⊎-elim (λ e. p .over e ∙ sym (q .over e)) (λ d. p .beside d ∙ sym (q .beside d)) (same-or-not (length old) 63)
+
+-- where a test before reading fails, any two refusals that are told are equal
+pub one-first-refusal : (w : List ℕ) (t : ℕ) (wanted : Wanted) (room : ℕ) (r s : Refusal) → (Fit w t wanted room → ⊥) → RefusedFirst w t wanted room r → RefusedFirst w t wanted room s
+    → r ≡ s
+one-first-refusal w t wanted room r s d p q =
+    one-refusal r s (one-answer (readingTests w t wanted room) (numberOf r) (numberOf s) (p .answer d) (q .answer d))
+
+-- and any two answers for a line that was found or not
+pub one-answered : (m : Mended) (wanted : Wanted) (old f g x y : List ℕ) → Answers m wanted old f x → Answers m wanted old g y → (f ≡ g) × (x ≡ y)
+one-answered m wanted old f g x y p q = pick (m .found) refl
+  where
+    pick : (b : Bool) → m .found ≡ b → (f ≡ g) × (x ≡ y)
+    pick false e = (p .none e .0 ∙ sym (q .none e .0), p .none e .1 ∙ sym (q .none e .1))
+    pick true e =
+        ⊎-elim
+        (λ (i : IsWanted wanted (lowNumber (m .word))).
+        (p .line e i .0 ∙ sym (q .line e i .0), one-written (m .word) old x y (p .line e i .1) (q .line e i .1)))
+        (λ (d : IsWanted wanted (lowNumber (m .word)) → ⊥). (p .other e d .0 ∙ sym (q .other e d .0), p .other e d .1 ∙ sym (q .other e d .1)))
+        (wanted-or-not wanted (lowNumber (m .word)))

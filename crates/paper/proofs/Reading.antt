@@ -33,7 +33,7 @@ use Rattle.paper.proofs.Assumed.{told-true, solved, found, the-line}
 -- ---- the recheck
 
 -- a word is a line where its sums and those of the marks, added, are all 0
-line-by-zeros : (r s : List ℕ) (b : Bool) → length r ≡ 63 → Characters r → ErrorsHave r s → Tells (Clear s) b → Tells (Line r) b
+pub line-by-zeros : (r s : List ℕ) (b : Bool) → length r ≡ 63 → Characters r → ErrorsHave r s → Tells (Clear s) b → Tells (Line r) b
 line-by-zeros r s b long characters have clear =
     record {
       holds = λ q.

@@ -19,9 +19,10 @@ use mender::NOWHERE;
 // The most errors that are assumed.
 const MOST: usize = 5;
 
-// Where the sums S_0 and S_1 stand, S_-5 being the first.
+// Where the sum S_0 stands, S_-5 being the first.
 const S_0: usize = 5;
 
+// And S_1.
 const S_1: usize = 6;
 
 const ALPHA: u8 = 2;

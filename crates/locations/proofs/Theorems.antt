@@ -1,10 +1,11 @@
 -- What the search for roots comes to: they are found exactly where there are as many as the degree, and then there is no other.
-use mathlib.Core.Path.{_≡_, refl}
-use mathlib.Core.Bool.{Bool, true, false}
+use mathlib.Core.Path.{_≡_}
+use mathlib.Core.Bool.{true}
 use mathlib.Core.List.{List, _∷_}
 use Prim.Native.Nat.{ℕ, _-_, _<_}
 use native.Mathlib.Omega.{arith}
 use lib.ListN.{drop}
+use Rattle.numbers.proofs.Cases.{true-of-not-false}
 use Rattle.polynomial.specs.Sums.{Fresh}
 use Rattle.polynomial.specs.Polynomial.{polyAt}
 use Rattle.polynomial.specs.Roots.{Monic, Split}
@@ -15,11 +16,7 @@ use Rattle.locations.specs.Roots.{Finds}
 module _ (p : List ℕ) (d : ℕ) (r : Locations) (finds : Finds p d r) (monic : Monic p d) where
   -- found is true exactly where p has d roots, none of them 0 and no two the same
   pub found-exactly : (r .found ≡ true → (rs : List ℕ) × Split p d rs) × ((rs : List ℕ) → Split p d rs → r .found ≡ true)
-  found-exactly = ((λ f. (drop (5 - d) (r .roots), finds .split f monic)), (λ rs s. told (r .found) (λ f. finds .none f rs s)))
-    where
-      told : (b : Bool) → (b ≡ false → ⊥) → b ≡ true
-      told true h = refl
-      told false h = absurd (h refl)
+  found-exactly = ((λ f. (drop (5 - d) (r .roots), finds .split f monic)), (λ rs s. true-of-not-false (r .found) (λ f. finds .none f rs s)))
 
   -- and each root that is not 0 is one of those found
   pub all-found : r .found ≡ true → (x : ℕ) → 0 < x → x < 64 → polyAt p x ≡ 0 → Fresh x (drop (5 - d) (r .roots)) → ⊥

@@ -1,5 +1,6 @@
--- Case distinctions on numbers: which of two is less, whether they are the same, which bit it is.
+-- Case distinctions: which of two numbers is less, whether they are the same, which bit it is; and what is not false.
 use mathlib.Core.Path.{_≡_, refl}
+use mathlib.Core.Bool.{Bool, true, false}
 use mathlib.Core.Logic.{_⊎_, inl, inr, ⊎-elim}
 use Prim.Native.Nat.{ℕ, zero, suc, _%_, _<_, _≤_}
 use native.Mathlib.Nat.{eq-or-lt-of-le, mod-lt, zero-lt-suc}
@@ -21,6 +22,10 @@ pos-of-not-zero (suc n) f = zero-lt-suc n
 
 pub not-zero-of-pos : {n : ℕ} → 0 < n → n ≡ 0 → ⊥
 not-zero-of-pos p e = omega arith
+
+pub true-of-not-false : (b : Bool) → (b ≡ false → ⊥) → b ≡ true
+true-of-not-false true f = refl
+true-of-not-false false f = absurd (f refl)
 
 pub bit-lt : (n : ℕ) → n % 2 < 2
 bit-lt n = mod-lt n (zero-lt-suc 1)

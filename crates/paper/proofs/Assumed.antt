@@ -1,6 +1,6 @@
 -- Where exactly as many errors are assumed as there are, the attempt finds the line: neither system is singular, and what is added makes the line.
-use mathlib.Core.Path.{_≡_, refl, sym, ap, ap₂, _∙_, subst}
-use mathlib.Core.Bool.{Bool, true, false}
+use mathlib.Core.Path.{_≡_, sym, ap, ap₂, _∙_, subst}
+use mathlib.Core.Bool.{true}
 use mathlib.Core.Logic.{⊎-elim}
 use mathlib.Core.List.{List, [], _∷_}
 use Prim.Native.Nat.{ℕ, zero, suc, _+_, _-_, _%_, _<_, _≤_}
@@ -9,7 +9,7 @@ use native.Mathlib.Omega.{arith}
 use lib.ListN.{length, getD, drop, length-drop, List·getD-eq-default}
 use lib.Seq.{getD-drop}
 use Rattle.numbers.specs.Total.{total}
-use Rattle.numbers.proofs.Cases.{le-or-lt, same-or-not, pos-of-not-zero}
+use Rattle.numbers.proofs.Cases.{le-or-lt, same-or-not, pos-of-not-zero, true-of-not-false}
 use Rattle.numbers.proofs.Totals.{total-same}
 use Rattle.field.specs.Field.{sum, product, α, power}
 use Rattle.field.proofs.Laws
@@ -68,11 +68,6 @@ dot-same : (n : ℕ) (u q p : ℕ → ℕ) → ((k : ℕ) → q k ≡ p k) → d
 unfolding dot
 dot-same n u q p e = total-same (suc n) (λ k. product (u k) (q k)) (λ k. product (u k) (p k)) (λ k _. ap (product (u k)) (e k))
 
--- what is not false is true
-pub told-true : (b : Bool) → (b ≡ false → ⊥) → b ≡ true
-told-true true f = refl
-told-true false f = absurd (f refl)
-
 -- ---- the magnitudes: their system has one solution wherever the places differ
 
 module _ (xs s : List ℕ) (n : ℕ) (few : n ≤ 5) (long : length xs ≡ 5) (places : Places (drop (5 - n) xs)) (m : List (List ℕ)) (rows : PowerRows xs s n m) where
@@ -114,7 +109,7 @@ module _ (xs s : List ℕ) (n : ℕ) (few : n ≤ 5) (long : length xs ≡ 5) (p
   pub values-have : (r : Solution) → Solves n m r → ((i : ℕ) → i < 11 → getD s i 0 < 64) → (i : ℕ) → i < n
       → total n (λ k. product (getD (r .unknowns) k 0) (power (getD xs (5 - n + k) 0) i)) ≡ getD s (5 + i) 0
   values-have r solves small i h =
-      let found : r .found ≡ true = told-true (r .found) (λ z. solves .singular z powers-regular) in
+      let found : r .found ≡ true = true-of-not-false (r .found) (λ z. solves .singular z powers-regular) in
       let v : ℕ → ℕ = entry (r .unknowns) in
       Laws.sum-eq (total n (λ k. product (v k) (power (getD xs (5 - n + k) 0) i))) (getD s (5 + i) 0)
       (ap (sum (total n (λ k. product (v k) (power (getD xs (5 - n + k) 0) i))))
@@ -192,7 +187,7 @@ module _ (w s l : List ℕ) (n : ℕ) (few : n ≤ 5) (long : length w ≡ 63) (
 
     module _ (functions : Solution) (solves : Solves n m functions) where
       pub solved : functions .found ≡ true
-      solved = told-true (functions .found) (λ z. solves .singular z sums-regular)
+      solved = true-of-not-false (functions .found) (λ z. solves .singular z sums-regular)
 
       p : List ℕ
       p = functions .unknowns
@@ -212,7 +207,7 @@ module _ (w s l : List ℕ) (n : ℕ) (few : n ≤ 5) (long : length w ≡ 63) (
       module _ (located : Locations) (finds : Finds (functions .unknowns) n located) where
         pub found : located .found ≡ true
         unfolding p
-        found = told-true (located .found) (λ z. finds .none z (supported e xs) (split-supported e xs xs-good e-values p n p-monic e-weight p-zeros))
+        found = true-of-not-false (located .found) (λ z. finds .none z (supported e xs) (split-supported e xs xs-good e-values p n p-monic e-weight p-zeros))
 
         rs : List ℕ
         rs = drop (5 - n) (located .roots)

@@ -7,7 +7,7 @@ use Prim.Native.Nat.{ℕ, min, _+_, _-_, _<_, _≤_}
 use native.Mathlib.Omega.{arith}
 use borrow.Author.Tests.{not-false}
 use lib.ListN.{length, drop, replicate}
-use Rattle.numbers.proofs.Cases.{same-or-not}
+use Rattle.numbers.proofs.Cases.{same-or-not, true-of-not-false}
 use Rattle.refusal.specs.Promise.{Tells}
 use Rattle.field.specs.Field.{sum}
 use Rattle.field.proofs.Laws
@@ -28,7 +28,7 @@ use Rattle.line.specs.Inside.{Fit, Answers}
 use Rattle.line.proofs.Reading.{answered-reads}
 use Rattle.paper.specs.declared.Tried.{Tried}
 use Rattle.paper.specs.Inside.{ErrorsHave, SumRows, PowerRows, Corrects, Attempts}
-use Rattle.paper.proofs.Assumed.{told-true, solved, found, the-line}
+use Rattle.paper.proofs.Assumed.{solved, found, the-line}
 
 -- ---- the recheck
 
@@ -85,7 +85,7 @@ module _ (w s : List ℕ) (n : ℕ) (few : n ≤ 5) (word : Word w) (have : Erro
               line = tells .holds;
               near = λ _. corrects .near;
               exact = λ l line apart.
-                  told-true b
+                  true-of-not-false b
                   (λ q.
                   tells .fails q
                   (subst Line

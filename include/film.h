@@ -7,7 +7,8 @@
  * are taken and answered.
  *
  * Every function but film_version answers 0 when it is done, and else one of the refusals below. A refusal's other fields
- * are 0, and the output is as it was. Nothing is kept between calls, so any number of threads may call at once.
+ * are 0, and the output is as it was; 16 alone, an improper sheet, keeps its other field and writes its output. Nothing is
+ * kept between calls, so any number of threads may call at once.
  *
  * A character is a byte from 0 to 63. A line is 63 characters: addresses 0 to 49 hold text, 50 and 51 the high and the
  * low six bits of the line number, 52 to 62 checks. The distance of two words is the count of addresses where they
@@ -25,7 +26,7 @@ extern "C" {
 /* ---- The version of this header. tools/tables writes its three numbers from version.txt. */
 
 #define FILM_VERSION_MAJOR 4
-#define FILM_VERSION_MINOR 4
+#define FILM_VERSION_MINOR 5
 #define FILM_VERSION_PATCH 0
 #define FILM_VERSION (1000000 * FILM_VERSION_MAJOR + 1000 * FILM_VERSION_MINOR + FILM_VERSION_PATCH)
 
@@ -38,7 +39,7 @@ uint32_t film_version(void);
 
 enum {
     FILM_DONE = 0,
-    FILM_INPUT_LENGTH = 1,      /* a line, ring or map of blots is not 63 long, a text is not 50 long, or a spool's length is no multiple of 63 or is over 16,065 */
+    FILM_INPUT_LENGTH = 1,      /* a line, ring or map of blots is not 63 long, a text is not 50 long, a sheet is not 3,969 long, its texts are not 2,600 long or its numbers not 52, or a spool's length is no multiple of 63 or is over 16,065 */
     FILM_VALUE_OVER = 2,        /* a character (a register's too) or field operand is over 63, a data row over 127, or a byte of a map over 1 */
     FILM_RADIUS_OVER = 3,       /* radius over 5 */
     FILM_NUMBER_OVER = 4,       /* number over 4095 */
@@ -53,7 +54,8 @@ enum {
     FILM_QUOTIENT_BY_ZERO = 13, /* quotient by zero */
     FILM_TEMPLATE = 14,         /* panel text: the kind is 1, a template */
     FILM_UNKNOWN_KIND = 15,     /* panel text: the kind is over 1 */
-    FILM_LAST_REFUSAL = 15      /* the highest of these numbers */
+    FILM_IMPROPER_SHEET = 16,   /* sheet reading: what the rounds leave is no proper sheet; it is written all the same, and the rounds are told */
+    FILM_LAST_REFUSAL = 16      /* the highest of these numbers */
 };
 
 /* ---- Lengths, in bytes. */
@@ -62,6 +64,8 @@ enum {
     FILM_TEXT = 50,       /* the text of a line */
     FILM_CHARACTERS = 63, /* a line, a ring, a map of blots, and the output of encoding and reading them */
     FILM_STARTS = 126,    /* the output of listing a ring */
+    FILM_SHEET = 3969,    /* a sheet, 63 lines, and the output of encoding and reading it */
+    FILM_TEXTS = 2600,    /* the texts of a sheet's first 52 lines */
     FILM_SPOOL = 16065,   /* the longest spool, 255 lines; the output of reading a spool is as long as the spool */
     FILM_PANEL = 294,     /* the least output of panel text, and the longest text for a panel */
     FILM_CHECKS = 11      /* a register's characters, and the checks */
@@ -162,6 +166,32 @@ typedef struct film_spool {
 /* The output is as long as the lines; no lines are fine. Refusals: 1, 5. Refusals 2, 3 and 6 stay with each line: a radius
  * over 5 makes the call answer 0, and each line 2 or 3. */
 film_spool film_read_spool(const uint8_t *lines, size_t lines_len, uint8_t radius, uint8_t *out, size_t out_len);
+
+/* ---- A sheet: 63 lines, one after the other. It is proper when each of them is a line and, with each line's marks taken
+ * off, each of its 63 columns is a word of the same code: the first 52 lines are free, and the last eleven, text and number
+ * field too, are what the columns force. So whole lines that dust took can be had back. */
+
+enum {
+    FILM_NUMBERS = 52, /* a count: the lines of a sheet that have texts and numbers of their own */
+    FILM_ROUNDS = 8    /* a count: the most rounds of reading a sheet */
+};
+
+typedef struct film_sheet {
+    uint8_t answer;
+    uint8_t rounds; /* how many were run, the last counted: 1 to 8; 0 after refusals 1, 5 and 2 */
+} film_sheet;
+
+/* Reads a sheet, 3,969 characters, in rounds: each line is read with radius 5, then each column, marks off; what cannot be
+ * read is left. Rounds go on until one ends as it began or eight are done, and the output, 3,969 bytes, gets what they
+ * leave. Where at most five lines of a proper sheet are damaged in any way and each other line in at most five characters,
+ * that is the sheet, after 2 rounds (1 where nothing was damaged). Refusals: 1, 5, 2, 16. 16 says that what the rounds left
+ * is not proper: it is written, and its rounds are told. */
+film_sheet film_read_sheet(const uint8_t *sheet, size_t sheet_len, uint8_t *out, size_t out_len);
+
+/* Encodes a sheet from 52 texts of 50 characters, one after the other, and 52 numbers from 0 to 4095: the output, 3,969
+ * bytes, gets the one proper sheet whose first 52 lines have those texts and numbers. numbers_len counts numbers, not
+ * bytes. Refusals: 1, 5, 2, 4. 1 is given for the texts' length and for the numbers'. */
+uint8_t film_encode_sheet(const uint8_t *texts, size_t texts_len, const uint16_t *numbers, size_t numbers_len, uint8_t *out, size_t out_len);
 
 /* ---- Two scans of one line. Each is read with the radius and no wanted number. The scan that is read with the smaller
  * distance is the better one, the first where they tie; where one is refused it is the other; where both are, it is

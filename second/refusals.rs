@@ -3,7 +3,7 @@
 // A number that no rule here answers is no mistake.
 #![allow(dead_code)]
 
-/// A line, ring or map of blots is not 63 long, a text is not 50 long, or a spool's length is no multiple of 63 or is over 16,065.
+/// A line, ring or map of blots is not 63 long, a text is not 50 long, a sheet is not 3,969 long, its texts are not 2,600 long or its numbers not 52, or a spool's length is no multiple of 63 or is over 16,065.
 pub const INPUT_LENGTH: u8 = 1;
 /// A character (a register's too) or field operand is over 63, a data row over 127, or a byte of a map over 1.
 pub const VALUE_OVER: u8 = 2;
@@ -33,3 +33,5 @@ pub const QUOTIENT_BY_ZERO: u8 = 13;
 pub const TEMPLATE: u8 = 14;
 /// Panel text: the kind is over 1.
 pub const UNKNOWN_KIND: u8 = 15;
+/// Sheet reading: what the rounds leave is no proper sheet; it is written all the same, and the rounds are told.
+pub const IMPROPER_SHEET: u8 = 16;

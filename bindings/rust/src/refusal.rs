@@ -6,7 +6,7 @@ use core::fmt;
 #[derive(Clone, Copy, Debug, PartialEq, Eq, Hash)]
 #[non_exhaustive]
 pub enum Refusal {
-    /// A line, ring or map of blots is not 63 long, a text is not 50 long, or a spool's length is no multiple of 63 or is over 16,065.
+    /// A line, ring or map of blots is not 63 long, a text is not 50 long, a sheet is not 3,969 long, its texts are not 2,600 long or its numbers not 52, or a spool's length is no multiple of 63 or is over 16,065.
     InputLength,
     /// A character (a register's too) or field operand is over 63, a data row over 127, or a byte of a map over 1.
     ValueOver,
@@ -36,6 +36,8 @@ pub enum Refusal {
     Template,
     /// Panel text: the kind is over 1.
     UnknownKind,
+    /// Sheet reading: what the rounds leave is no proper sheet; it is written all the same, and the rounds are told.
+    ImproperSheet,
     /// A number that this crate does not know: the library that is linked is a later one.
     Unknown(u8),
 }
@@ -58,6 +60,7 @@ impl Refusal {
         Refusal::QuotientByZero,
         Refusal::Template,
         Refusal::UnknownKind,
+        Refusal::ImproperSheet,
     ];
 
     /// The paper's number.
@@ -78,6 +81,7 @@ impl Refusal {
             Refusal::QuotientByZero => 13,
             Refusal::Template => 14,
             Refusal::UnknownKind => 15,
+            Refusal::ImproperSheet => 16,
             Refusal::Unknown(number) => number,
         }
     }
@@ -95,7 +99,7 @@ impl Refusal {
 impl fmt::Display for Refusal {
     fn fmt(&self, f: &mut fmt::Formatter<'_>) -> fmt::Result {
         let why = match self {
-            Refusal::InputLength => "a line, ring or map of blots is not 63 long, a text is not 50 long, or a spool's length is no multiple of 63 or is over 16,065",
+            Refusal::InputLength => "a line, ring or map of blots is not 63 long, a text is not 50 long, a sheet is not 3,969 long, its texts are not 2,600 long or its numbers not 52, or a spool's length is no multiple of 63 or is over 16,065",
             Refusal::ValueOver => "a character (a register's too) or field operand is over 63, a data row over 127, or a byte of a map over 1",
             Refusal::RadiusOver => "radius over 5",
             Refusal::NumberOver => "number over 4095",
@@ -110,6 +114,7 @@ impl fmt::Display for Refusal {
             Refusal::QuotientByZero => "quotient by zero",
             Refusal::Template => "panel text: the kind is 1, a template",
             Refusal::UnknownKind => "panel text: the kind is over 1",
+            Refusal::ImproperSheet => "sheet reading: what the rounds leave is no proper sheet; it is written all the same, and the rounds are told",
             Refusal::Unknown(_) => "a reason that this crate does not know",
         };
         write!(f, "refused ({}): {why}", self.number())

@@ -19,6 +19,7 @@ pub enum Refusal {
     QuotientByZero,
     Template,
     UnknownKind,
+    ImproperSheet,
 }
 
 // The number of a refusal.
@@ -41,5 +42,6 @@ pub fn number(r: Refusal) -> u8
         Refusal::QuotientByZero => 13,
         Refusal::Template => 14,
         Refusal::UnknownKind => 15,
+        Refusal::ImproperSheet => 16,
     }
 }

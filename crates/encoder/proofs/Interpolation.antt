@@ -9,7 +9,8 @@ use native.Mathlib.Omega.{arith}
 use borrow.Author.Tests.{eqb-true, eq-eqb}
 use lib.Dec.{T, eqb, eqb→eq}
 use lib.Bits.{bitXor}
-use lib.ListN.{length, getD, replicate, length-append, List·getD-append}
+use lib.ListN.{length, getD, drop, replicate, length-append, List·getD-append}
+use lib.Seq.{take-at, drop-at}
 use Rattle.numbers.proofs.Range.{each, each-at}
 use Rattle.numbers.proofs.Cases.{le-or-lt}
 use Rattle.numbers.specs.Total.{total}
@@ -17,17 +18,20 @@ use Rattle.field.specs.Field.{sum, timesX, shifted, product, α, power}
 use Rattle.field.proofs.Laws
 use Rattle.numbers.proofs.Totals.{total-same, total-swap, total-only, total-lt}
 use Rattle.field.proofs.Totals.{total-sum, total-scaled}
+use Rattle.polynomial.specs.Sums.{weight}
 use Rattle.polynomial.specs.Polynomial.{valueAt}
 use Rattle.polynomial.proofs.Horner.{value-total, value-append, value-zeros, horner, horner-value}
 use Rattle.lanes.specs.Lanes.{pack, lane}
 use Rattle.lanes.proofs.Laws.{lane-lt, pack-same, lane-pack, xor-pack}
-use Rattle.code.specs.Word.{Characters, powerSum, listed}
+use Rattle.code.specs.Word.{Characters, powerSum, Clean, added, listed}
 use Rattle.code.specs.Inside.{PowerSums}
-use Rattle.code.proofs.Words.{listed-long, listed-get, characters-below}
-use Rattle.code.proofs.Sums.{powerSum-value, powerSum-lt}
+use Rattle.code.proofs.Words.{listed-long, listed-get, characters-below, length-added, characters-added, added-zeros}
+use Rattle.code.proofs.Sums.{powerSum-value, powerSum-lt, powerSum-added}
+use Rattle.code.proofs.Distances.{distance-weight, distance-take}
+use Rattle.code.proofs.Lines.{clean-light}
 use Rattle.encoder.specs.Division.{remainder}
 use Rattle.encoder.specs.Interpolation.{ChecksWith, eleven}
-use Rattle.encoder.proofs.Encoding.{characters-append}
+use Rattle.encoder.proofs.Encoding.{characters-append, characters-zeros}
 use Rattle.encoder.proofs.Cleaning.{clean-ends}
 
 -- ---- the words with one power sum 1
@@ -160,6 +164,39 @@ checks-remainder cs sums r h c p q =
           (q .sum-at k l ∙ ap (λ (s : ℕ). s % 64) (p .sum-at k l) ∙ mod-eq-of-lt (powerSum-lt (58 + k) (cs ++ replicate 11 0)))
           ∙ Laws.sum-self (powerSum (58 + k) (cs ++ replicate 11 0));
     })
+
+-- checks with the same sums are one: behind 52 zeros they differ at eleven addresses at most
+pub one-checks : (sums r q : List ℕ) → ChecksWith sums r → ChecksWith sums q → r ≡ q
+one-checks sums r q x y =
+    sym (drop-at (replicate 52 0) r 52 refl) ∙ ap (drop 52) (added-zeros u v (lu ∙ sym lv) (clean-light (added u v) clean few)) ∙ drop-at (replicate 52 0) q 52 refl
+  where
+    u : List ℕ
+    u = replicate 52 0 ++ r
+
+    v : List ℕ
+    v = replicate 52 0 ++ q
+
+    lu : length u ≡ 63
+    lu = omega (arith, length-append (replicate 52 0) r, x .long)
+
+    lv : length v ≡ 63
+    lv = omega (arith, length-append (replicate 52 0) q, y .long)
+
+    few : weight (added u v) ≤ 11
+    few =
+        let d = distance-take 52 u v (take-at (replicate 52 0) r 52 refl ∙ sym (take-at (replicate 52 0) q 52 refl)) in
+        let e = distance-weight u v in
+        omega (arith, lu)
+
+    clean : Clean (added u v)
+    clean =
+        record {
+          long = length-added u v (lu ∙ sym lv) ∙ lu;
+          characters =
+              characters-added u v (characters-append (replicate 52 0) r (characters-zeros 52) (x .characters))
+              (characters-append (replicate 52 0) q (characters-zeros 52) (y .characters));
+          sums = λ k h. powerSum-added (58 + k) u v (lu ∙ sym lv) ∙ ap₂ sum (x .sum-at k h) (y .sum-at k h) ∙ Laws.sum-self (getD sums k 0 % 64);
+        }
 
 -- ---- each sum times its word
 

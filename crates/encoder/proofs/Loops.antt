@@ -30,7 +30,7 @@ use Rattle.encoder.specs.Division.{remainder}
 use Rattle.encoder.specs.Register.{stepped, next, checksOf}
 use Rattle.encoder.specs.Promises.{encodingTests, LineWith, Encodes, stepNumbers, stepTests, Steps, checkTests, Checks}
 use Rattle.encoder.specs.Interpolation.{ChecksWith, eleven}
-use Rattle.encoder.specs.Inside.{information}
+use Rattle.encoder.specs.Inside.{information, InformationOf, Ended, LinePut}
 use Rattle.encoder.proofs.Division.{below, lower}
 use Rattle.encoder.proofs.Stepping.{stepped-long, stepped-get, checks-are}
 use Rattle.encoder.proofs.Encoding.{information-long, information-characters, encoded, encoded-line}
@@ -214,17 +214,33 @@ unpacked-all ten s checks rest i h u =
 
 -- ---- the information characters, copied and stored
 
+-- the high half of the low twelve bits
+high-half : (n : ℕ) → n / 64 % 64 ≡ n % 4096 / 64
+high-half n = omega arith
+
 pub information-copied : (t copied : List ℕ) (n : ℕ) → length t ≡ 50 → copied ≡ take (length t) t ++ drop (length t) (replicate 63 0)
-    → set (set copied 50 (n / 64)) 51 (n % 64) ≡ information t n ++ replicate 11 0
+    → InformationOf t n (set (set copied 50 (n / 64 % 64)) 51 (n % 64))
 unfolding information
-information-copied t copied n h e =
-    ap (λ (l : List ℕ). set (set l 50 (n / 64)) 51 (n % 64))
-    (e ∙ ap₂ (λ (l : List ℕ) (m : ℕ). l ++ drop m (replicate 63 0)) (take-length t) h)
-    ∙ ap (λ (l : List ℕ). set l 51 (n % 64)) (set-at t 0 (replicate 12 0) (n / 64) 50 h)
-    ∙ ap (λ (l : List ℕ). set l 51 (n % 64)) (sym (append-assoc t (n / 64 ∷ []) (replicate 12 0)))
-    ∙ set-at (t ++ n / 64 ∷ []) 0 (replicate 11 0) (n % 64) 51 (omega (arith, length-append t (n / 64 ∷ [])))
-    ∙ append-assoc t (n / 64 ∷ []) (n % 64 ∷ replicate 11 0)
-    ∙ sym (append-assoc t (n / 64 ∷ n % 64 ∷ []) (replicate 11 0))
+information-copied t copied n h e = record { is = λ _. halves; none = λ d. absurd (d h) }
+  where
+    stored : (m : ℕ) → set (set copied 50 (m / 64)) 51 (m % 64) ≡ information t m ++ replicate 11 0
+    stored n =
+        ap (λ (l : List ℕ). set (set l 50 (n / 64)) 51 (n % 64))
+        (e ∙ ap₂ (λ (l : List ℕ) (m : ℕ). l ++ drop m (replicate 63 0)) (take-length t) h)
+        ∙ ap (λ (l : List ℕ). set l 51 (n % 64)) (set-at t 0 (replicate 12 0) (n / 64) 50 h)
+        ∙ ap (λ (l : List ℕ). set l 51 (n % 64)) (sym (append-assoc t (n / 64 ∷ []) (replicate 12 0)))
+        ∙ set-at (t ++ n / 64 ∷ []) 0 (replicate 11 0) (n % 64) 51 (omega (arith, length-append t (n / 64 ∷ [])))
+        ∙ append-assoc t (n / 64 ∷ []) (n % 64 ∷ replicate 11 0)
+        ∙ sym (append-assoc t (n / 64 ∷ n % 64 ∷ []) (replicate 11 0))
+
+    low-half : n % 64 ≡ n % 4096 % 64
+    low-half = omega arith
+
+    halves : set (set copied 50 (n / 64 % 64)) 51 (n % 64) ≡ information t (n % 4096) ++ replicate 11 0
+    halves = ap₂ (λ (p q : ℕ). set (set copied 50 p) 51 q) (high-half n) low-half ∙ stored (n % 4096)
+
+pub no-information : (t : List ℕ) (n : ℕ) → (length t ≡ 50 → ⊥) → InformationOf t n (replicate 63 0)
+no-information t n d = record { is = λ h. absurd (d h); none = λ _. refl }
 
 -- ---- the output: all its 63 bytes, then the last eleven again
 
@@ -256,16 +272,33 @@ module _ (t : List ℕ) (n : ℕ) (old : List ℕ) where
   unfolding Encodes
   line-written new m l = succeeds (λ fields l. (fields ≡ []) × LineWith t n l) 0 old tests [] new m (refl, l)
 
--- the information of a text and a number, and the checks with its power sums, are the line with that text and number
-pub the-line : (t : List ℕ) (n : ℕ) (w s r k new : List ℕ) → length t ≡ 50 → Yes (Characters t) → n ≤ 4095 → w ≡ information t n ++ replicate 11 0
-    → PowerSums w s → ChecksWith s r → k ≡ checksOf r → new ≡ take 52 w ++ k → LineWith t n new
+-- ---- a line put
+
+pub line-put : (w s r k old new : List ℕ) → length old ≡ 63 → PowerSums w s → ChecksWith s r → k ≡ checksOf r → new ≡ take 52 w ++ k → LinePut w old new
+line-put w s r k old new h ps cw ek en =
+    record {
+      over = λ _. record { sums = s; checks = r; of-word = ps; with-sums = cw; is = en ∙ ap (λ (l : List ℕ). take 52 w ++ l) ek };
+      beside = λ d. absurd (d h);
+    }
+
+pub no-line-put : (w old : List ℕ) → (length old ≡ 63 → ⊥) → LinePut w old old
+no-line-put w old d = record { over = λ h. absurd (d h); beside = λ _. refl }
+
+-- after 52 characters and eleven zeros it is they, and the checks of what the division leaves of them
+pub ended-so : (cs new : List ℕ) → length cs ≡ 52 → Characters cs → Ended (cs ++ replicate 11 0) new → new ≡ cs ++ checksOf (remainder cs)
+ended-so cs new long c e =
+    e .is ∙ ap₂ _++_ (take-at cs (replicate 11 0) 52 long) (ap checksOf (checks-remainder cs (e .sums) (e .checks) long c (e .of-word) (e .with-sums)))
+
+-- the information of a text and a number, ended so, is the line with that text and number
+pub the-line : (t : List ℕ) (n : ℕ) (w old new : List ℕ) → length t ≡ 50 → Yes (Characters t) → n ≤ 4095 → length old ≡ 63 → InformationOf t n w → LinePut w old new
+    → LineWith t n new
 unfolding encoded
-the-line t n w s r k new h c m ew ps cw ek en =
+the-line t n w old new h c m room of-them put =
     let i : List ℕ = information t n in
-    let long : length i ≡ 52 = information-long t n h in
-    let left : r ≡ remainder i =
-    checks-remainder i s r long (information-characters t n (c .is) m) (subst (λ (l : List ℕ). PowerSums l s) ew ps) cw in
-    let same : new ≡ encoded t n = en ∙ ap₂ _++_ (ap (take 52) ew ∙ take-at i (replicate 11 0) 52 long) (ek ∙ ap checksOf left) in
+    let small : n % 4096 ≡ n = omega arith in
+    let is : w ≡ i ++ replicate 11 0 = of-them .is h ∙ ap (λ (k : ℕ). information t k ++ replicate 11 0) small in
+    let same : new ≡ encoded t n =
+    ended-so i new (information-long t n h) (information-characters t n (c .is) m) (subst (λ (l : List ℕ). Ended l new) is (put .over room)) in
     subst (LineWith t n) (sym same) (encoded-line t n h (c .is) m)
 
 -- ---- the ways out of a step

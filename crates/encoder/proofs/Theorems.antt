@@ -1,15 +1,17 @@
--- The encoder's theorems: the generator and the division, the one line of a text and a number, the register after every character, the two ways, and one result of each promise.
+-- The encoder's theorems: the generator and the division, the one line of a text and a number, the register after every character, the two ways, and one result of each promise and of each inner function that others call.
 use mathlib.Core.Path.{_≡_, refl, sym, ap, ap₂, _∙_, subst}
+use mathlib.Core.Logic.{⊎-elim}
 use mathlib.Core.List.{List, [], _∷_, _++_, reverse}
 use Prim.Native.Nat.{ℕ, suc, _/_, _%_, _<_, _≤_}
 use native.Mathlib.Nat.{zero-add}
 use native.Mathlib.Omega.{arith}
-use lib.ListN.{length, getD, drop, replicate, length-append}
+use lib.ListN.{length, getD, take, drop, replicate, length-append}
 use lib.Seq.{drop-at}
+use Rattle.numbers.proofs.Cases.{same-or-not}
 use Rattle.refusal.proofs.Laws.{one-refusal, refusal-positive, passed}
 use Rattle.refusal.proofs.Theorems.{one-result}
 use Rattle.code.specs.Word.{Characters, Clean}
-use Rattle.code.proofs.Theorems.{one-line-of-text}
+use Rattle.code.proofs.Theorems.{one-line-of-text, one-list-of-sums}
 use Rattle.encoder.specs.declared.LineEncoding.{LineEncoding}
 use Rattle.encoder.specs.declared.LineEncoding.the-variants as L
 use Rattle.encoder.specs.declared.StepAnswer.{StepAnswer}
@@ -23,11 +25,13 @@ use Rattle.encoder.specs.Division.{plus, scaled, generator, remainder, t
 use Rattle.encoder.specs.Register.{empty, next, checksOf}
 use Rattle.encoder.specs.Promises.{encodingNumbers, encodingTests, LineWith, Encodes, stepNumbers, Steps, answerNumber, checkNumbers, Checks}
 use Rattle.encoder.specs.Runs.{Through, HoldsAfter}
-use Rattle.encoder.specs.Inside.{information}
+use Rattle.encoder.specs.Interpolation.{ChecksWith}
+use Rattle.encoder.specs.Inside.{information, InformationOf, Ended, LinePut}
 use Rattle.encoder.proofs.Division.{lower, generator-is, highest-goes, remainder-is, remainder-long}
 use Rattle.encoder.proofs.Quotients.{quotients, apart}
 use Rattle.encoder.proofs.Encoding.{characters-append, characters-zeros, characters-remainder, information-long, information-characters, encoded, encoded-line}
 use Rattle.encoder.proofs.Cleaning
+use Rattle.encoder.proofs.Interpolation.{one-checks}
 use Rattle.encoder.proofs.Running.{one-stepping, one-asking, ask-on, holds-none, run-holds, a-run, idle-refused}
 
 -- ---- the generator
@@ -145,3 +149,21 @@ pub one-check : (r : Register) (a b : Checked) → Checks r (checkNumbers a) →
 one-check r a b p q =
     let e = one-asking r (checkNumbers a) (checkNumbers b) p q in
     ap₂ (λ (x : List ℕ) (y : CheckAnswer). record { checks = x; answer = y }) (ap (drop 1) e) (one-answer-number (a .answer) (b .answer) (ap (λ (l : List ℕ). getD l 0 0) e))
+
+-- ---- inner functions
+
+-- any two lists of a text's and a number's characters are equal
+pub one-information : (t : List ℕ) (n : ℕ) (w v : List ℕ) → InformationOf t n w → InformationOf t n v → w ≡ v
+one-information t n w v p q = ⊎-elim (λ (h : length t ≡ 50). p .is h ∙ sym (q .is h)) (λ (d : length t ≡ 50 → ⊥). p .none d ∙ sym (q .none d)) (same-or-not (length t) 50)
+
+-- and any two results of putting a line
+pub one-line-put : (w old x y : List ℕ) → LinePut w old x → LinePut w old y → x ≡ y
+one-line-put w old x y p q =
+    ⊎-elim (λ (h : length old ≡ 63). one-ended (p .over h) (q .over h)) (λ (d : length old ≡ 63 → ⊥). p .beside d ∙ sym (q .beside d)) (same-or-not (length old) 63)
+  where
+    one-ended : Ended w x → Ended w y → x ≡ y
+    one-ended a b =
+        let e : a .sums ≡ b .sums = one-list-of-sums w (a .sums) (b .sums) (a .of-word) (b .of-word) in
+        let f : a .checks ≡ b .checks =
+        one-checks (b .sums) (a .checks) (b .checks) (subst (λ (s : List ℕ). ChecksWith s (a .checks)) e (a .with-sums)) (b .with-sums) in
+        a .is ∙ ap (λ (c : List ℕ). take 52 w ++ checksOf c) f ∙ sym (b .is)

@@ -1,14 +1,13 @@
 // The encoder: a line at once, and the recorder's register, which takes one character at a time.
 ghost use mathlib.Core.Path.{_≡_};
 ghost use mathlib.Core.List.{_++_};
-ghost use Prim.Native.Nat.{_≤_};
-ghost use lib.ListN.{length, getD, take, replicate};
+ghost use lib.ListN.{length, getD, take};
 ghost use Rattle.refusal.specs.Promise.{Tells};
 ghost use Rattle.code.specs.Word.{Characters};
 ghost use Rattle.encoder.specs.Register.{empty, stepped, checksOf};
 ghost use Rattle.encoder.specs.Promises.{encodingNumbers, Encodes, stepNumbers, Steps, checkNumbers, Checks};
 ghost use Rattle.encoder.specs.Interpolation.{ChecksWith, eleven};
-ghost use Rattle.encoder.specs.Inside.{information};
+ghost use Rattle.encoder.specs.Inside.{InformationOf, LinePut};
 use eights::all_low;
 use refusal::Refusal;
 
@@ -146,15 +145,17 @@ fn marked(held: [u8; 11]) -> [u8; 11]
     checks
 }
 
-// The characters of addresses 0 to 51, the text, the high six bits of the number, the low six, and eleven zeros.
-fn information_of(text: &[u8], number: u16) -> [u8; 63]
-    requires { ⌜ length (now text) ≡ 50 ⌝ }
-    requires { ⌜ number ≤ 4095 ⌝ }
-    ensures { λ r. ⌜ r ≡ information (now (text .entry)) number ++ replicate 11 0 ⌝ }
+// The characters of addresses 0 to 51, the text, the high six bits of the number, the low six, and eleven zeros; of a number the low twelve bits count. Of a
+// text that is not 50 long zeros.
+pub fn information_of(text: &[u8], number: u16) -> [u8; 63]
+    ensures { λ r. ⌜ InformationOf (now (text .entry)) number r ⌝ }
 {
     let mut characters = [0u8; 63];
+    if text.len() != 50 {
+        return characters;
+    }
     bytes::copy(text, &mut characters);
-    characters[50] = (number / 64) as u8;
+    characters[50] = (number / 64 % 64) as u8;
     characters[51] = (number % 64) as u8;
     characters
 }
@@ -184,10 +185,19 @@ pub fn encode_line(text: &[u8], number: u16, output: &mut [u8]) -> LineEncoding
     if number > 4095 {
         return LineEncoding::Refused(Refusal::NumberOver);
     }
-    let word = information_of(text, number);
+    put_line(information_of(text, number), output);
+    LineEncoding::Written
+}
+
+// Writes the line with the first 52 characters of a word that ends in eleven zeros over an output of 63 bytes, and over no other.
+pub fn put_line(word: [u8; 63], output: &mut [u8])
+    ensures { λ _. ⌜ LinePut word (now (output .entry)) (now (output .exit)) ⌝ }
+{
+    if output.len() != 63 {
+        return;
+    }
     let checks = marked(checks_from(sums::power_sums(&word)));
     write_line(word, checks, output);
-    LineEncoding::Written
 }
 
 impl Register {

@@ -1,4 +1,4 @@
--- Each refusal by its own test, in the paper's order; and the line by the checks with its power sums, and the marks.
+-- Each refusal by its own test, in the paper's order; and the line of the text and the number.
 use native.Mathlib.Omega.{arith}
 use borrow.Author.Needs.{needs}
 use Rattle.refusal.proofs.Ladder.{verdicts}
@@ -15,10 +15,6 @@ encode-line-spec =
     (λ c κs. search needs)
     (λ c. line-refused _ _ _ 2 (search verdicts))
     (λ c. line-refused _ _ _ 3 (search (verdicts, arith) depth 9))
-    (λ c κs. search needs)
-    (λ c. search needs)
-    (λ c κs. search needs)
-    (λ c κs. search needs)
     (λ c κs. search needs)
     (λ c κs. search needs)
     (λ c. search needs)

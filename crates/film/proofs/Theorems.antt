@@ -1,4 +1,4 @@
--- The library's theorems: any two results that a function allows are equal, its struct and its output.
+-- The library's theorems: any two results that a function allows are equal, its struct and its output; and a sheet that was encoded is read as it is.
 use mathlib.Core.Path.{_≡_, sym, ap, ap₂, _∙_}
 use mathlib.Core.List.{List, [], _∷_}
 use Prim.Native.Nat.{ℕ}
@@ -20,6 +20,11 @@ use Rattle.spool.specs.Promises as Spool
 use Rattle.spool.proofs.Theorems.{same-spool}
 use Rattle.scans.specs.Promises as Scans
 use Rattle.scans.proofs.Theorems.{one-choice}
+use Rattle.sheet.specs.Sheet.{characters}
+use Rattle.sheet_encoder.specs.Promises as SheetEncoder
+use Rattle.sheet_encoder.proofs.Theorems.{same-encoding, a-proper-sheet}
+use Rattle.sheet_reader.specs.Promises as SheetReader
+use Rattle.sheet_reader.proofs.Theorems.{same-reading, undamaged-read}
 use Rattle.ring.specs.Ring.{placed}
 use Rattle.ring.specs.Promises as Ring
 use Rattle.ring.proofs.Those.{one-those}
@@ -39,7 +44,8 @@ use Rattle.film.specs.declared.FilmBlock.{FilmBlock}
 use Rattle.film.specs.declared.recorder.FilmRegister.{FilmRegister}
 use Rattle.film.specs.declared.recorder.FilmStepped.{FilmStepped}
 use Rattle.film.specs.declared.recorder.FilmChecked.{FilmChecked}
-use Rattle.film.specs.Numbers.{elementNumbers, choiceNumbers, listNumbers, ringNumbers, panelNumbers, blockNumbers, registerOf, checkNumbers}
+use Rattle.film.specs.declared.sheets.FilmSheet.{FilmSheet}
+use Rattle.film.specs.Numbers.{elementNumbers, choiceNumbers, listNumbers, ringNumbers, panelNumbers, blockNumbers, sheetNumbers, registerOf, checkNumbers}
 
 -- ---- the field
 
@@ -139,6 +145,29 @@ one-ring-read ring t old r s x y p q =
     (a .shows ∙ ap₂ (λ (k : ℕ) (l : List ℕ). k ∷ Line.told (placed k ring) l) same line ∙ sym (b .shows), line))
     old (ringNumbers r) (ringNumbers s) x y p q in
     (one-ring r s (e .0), e .1)
+
+-- ---- sheets
+
+pub one-sheet-encoding : (texts numbers old : List ℕ) (a b : ℕ) (x y : List ℕ)
+    → SheetEncoder.EncodesSheet texts numbers old (a ∷ []) x → SheetEncoder.EncodesSheet texts numbers old (b ∷ []) y → (a ≡ b) × (x ≡ y)
+one-sheet-encoding texts numbers old a b x y p q =
+    let e = same-encoding texts numbers old (a ∷ []) (b ∷ []) x y p q in
+    (ap (λ (l : List ℕ). getD l 0 0) (e .0), e .1)
+
+one-sheet : (r s : FilmSheet) → sheetNumbers r ≡ sheetNumbers s → r ≡ s
+one-sheet r s e = ap (λ (l : List ℕ). record { answer = getD l 0 0; rounds = getD l 1 0 }) e
+
+pub one-sheet-read : (sheet old : List ℕ) (r s : FilmSheet) (x y : List ℕ)
+    → SheetReader.ReadsSheet sheet old (sheetNumbers r) x → SheetReader.ReadsSheet sheet old (sheetNumbers s) y → (r ≡ s) × (x ≡ y)
+one-sheet-read sheet old r s x y p q = let e = same-reading sheet old (sheetNumbers r) (sheetNumbers s) x y p q in (one-sheet r s (e .0), e .1)
+
+-- what was encoded is read as it is, in one round
+pub encoded-read-back : (texts numbers old sheet : List ℕ) → SheetEncoder.EncodesSheet texts numbers old (0 ∷ []) sheet
+    → (other : List ℕ) → length other ≡ characters → (r : FilmSheet) (x : List ℕ) → SheetReader.ReadsSheet sheet other (sheetNumbers r) x
+    → (r ≡ record { answer = 0; rounds = 1 }) × (x ≡ sheet)
+encoded-read-back texts numbers old sheet encoded other room r x reads =
+    let e = undamaged-read sheet other (a-proper-sheet texts numbers old sheet encoded) room (sheetNumbers r) x reads in
+    (one-sheet r (record { answer = 0; rounds = 1 }) (e .0), e .1)
 
 -- ---- panel text
 

@@ -10,6 +10,7 @@ use Rattle.film.specs.declared.FilmPanel.{FilmPanel}
 use Rattle.film.specs.declared.FilmBlock.{FilmBlock}
 use Rattle.film.specs.declared.recorder.FilmRegister.{FilmRegister}
 use Rattle.film.specs.declared.recorder.FilmChecked.{FilmChecked}
+use Rattle.film.specs.declared.sheets.FilmSheet.{FilmSheet}
 
 abbrev pub elementNumbers : FilmElement → List ℕ
 elementNumbers r = r .answer ∷ r .value ∷ []
@@ -29,6 +30,9 @@ panelNumbers r = r .answer ∷ r .length ∷ []
 
 abbrev pub blockNumbers : FilmBlock → List ℕ
 blockNumbers r = r .answer ∷ r .distance ∷ []
+
+abbrev pub sheetNumbers : FilmSheet → List ℕ
+sheetNumbers r = r .answer ∷ r .rounds ∷ []
 
 -- the same eleven characters and the same count
 abbrev pub registerOf : FilmRegister → Register

@@ -27,9 +27,10 @@ use spool::PLACES;
 use spool::SpoolAnswer;
 
 pub mod recorder;
+pub mod sheets;
 
 // The library's version: a million times the major number, a thousand times the minor, and the patch. tools/tables writes it from version.txt.
-const VERSION: u32 = 4004000;
+const VERSION: u32 = 4005000;
 
 // The version of the library that is linked.
 #[no_mangle]

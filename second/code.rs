@@ -172,7 +172,7 @@ impl Code {
     }
 
     /// The errors, five at most, that have these sums.
-    fn errors(&self, sums: &Sums) -> Option<Vec<(usize, u8)>> {
+    pub fn errors(&self, sums: &Sums) -> Option<Vec<(usize, u8)>> {
         let (length, recurrence) = self.recurrence(sums);
         let addresses = self.roots(&recurrence);
         if length > 5 || addresses.len() != length {

@@ -22,6 +22,12 @@ pub struct Spool {
 }
 
 #[repr(C)]
+pub struct Sheet {
+    pub answer: u8,
+    pub rounds: u8,
+}
+
+#[repr(C)]
 pub struct Choice {
     pub answer: u8,
     pub scan: u8,
@@ -84,6 +90,8 @@ extern "C" {
     pub fn film_read_line_paper(word: *const u8, word_len: usize, radius: u8, out: *mut u8, out_len: usize) -> Line;
     pub fn film_read_line_paper_wanted(word: *const u8, word_len: usize, radius: u8, wanted: u16, out: *mut u8, out_len: usize) -> Line;
     pub fn film_read_spool(lines: *const u8, lines_len: usize, radius: u8, out: *mut u8, out_len: usize) -> Spool;
+    pub fn film_read_sheet(sheet: *const u8, sheet_len: usize, out: *mut u8, out_len: usize) -> Sheet;
+    pub fn film_encode_sheet(texts: *const u8, texts_len: usize, numbers: *const u16, numbers_len: usize, out: *mut u8, out_len: usize) -> u8;
     pub fn film_read_blotted(word: *const u8, word_len: usize, map: *const u8, map_len: usize, out: *mut u8, out_len: usize) -> Line;
     pub fn film_better_scan(first: *const u8, first_len: usize, second: *const u8, second_len: usize, radius: u8) -> Choice;
     pub fn film_list_ring(ring: *const u8, ring_len: usize, radius: u8, out: *mut u8, out_len: usize) -> List;

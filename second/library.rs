@@ -4,13 +4,15 @@
 //! tools/compare-library builds and runs it: library ROUNDS [SEED]. Each output lies between two rows of bytes that must stay, and so does each
 //! input, which must stay too. All pairs of operands are tried, every length up to 300, a byte that is too high at every place, and the rows of the
 //! bench sheet; the rest is random, and the same in every run with that seed. second/library/ has the calls of lines, in the library's way and in the
-//! paper's, of registers, of spools, with blots and for a panel, and what the change requests speak of. At the end each call must have given each
-//! answer that it can give.
+//! paper's, of registers, of spools, of sheets, with blots and for a panel, and what the change requests speak of. At the end each call must have given
+//! each answer that it can give.
 
 // Of the second program only what answers is called here; what writes the stored files is not.
 #![allow(dead_code)]
 
 mod adding;
+#[path = "library/answers.rs"]
+mod answers;
 mod block;
 mod blots;
 #[path = "library/blots.rs"]
@@ -38,11 +40,15 @@ mod registers;
 mod requests;
 mod ring;
 mod scans;
+#[path = "library/sheets.rs"]
+mod sheet_calls;
+mod sheets;
 mod spool;
 #[path = "library/spools.rs"]
 mod spools;
 mod twice;
 
+use answers::Given;
 use code::{added, marks, with_errors, Code};
 use interface::*;
 use lent::Lent;
@@ -50,37 +56,11 @@ use line::{number, random_addresses, random_errors, random_line};
 use panel::{random_note, PLAIN, ROOM};
 use random::Random;
 use refusals::*;
-use std::collections::BTreeMap;
 use std::fmt::Debug;
 use std::process::exit;
 
 /// The version that the library has to tell. tools/tables writes it from version.txt.
-const VERSION: u32 = 4004000;
-
-/// Each call, and every answer that it can give. A spool's line and an unblotted one, a word with no blot, are read alone, by film_read_line.
-const ANSWERS: [(&str, &[u8]); 21] = [
-    ("sum", &[0, VALUE_OVER]),
-    ("product", &[0, VALUE_OVER]),
-    ("quotient", &[0, VALUE_OVER, QUOTIENT_BY_ZERO]),
-    ("encode_line", &[0, INPUT_LENGTH, VALUE_OVER, NUMBER_OVER, OUTPUT_LENGTH]),
-    ("read_line", &[0, INPUT_LENGTH, VALUE_OVER, RADIUS_OVER, OUTPUT_LENGTH, NO_LINE]),
-    ("read_line_wanted", &[0, INPUT_LENGTH, VALUE_OVER, RADIUS_OVER, NUMBER_OVER, OUTPUT_LENGTH, NO_LINE, OTHER_NUMBER]),
-    ("read_line_paper", &[0, INPUT_LENGTH, VALUE_OVER, RADIUS_OVER, OUTPUT_LENGTH, NO_LINE]),
-    ("read_line_paper_wanted", &[0, INPUT_LENGTH, VALUE_OVER, RADIUS_OVER, NUMBER_OVER, OUTPUT_LENGTH, NO_LINE, OTHER_NUMBER]),
-    ("read_spool", &[0, INPUT_LENGTH, OUTPUT_LENGTH]),
-    ("spool_line", &[0, VALUE_OVER, RADIUS_OVER, NO_LINE]),
-    ("read_blotted", &[0, INPUT_LENGTH, VALUE_OVER, OUTPUT_LENGTH, NO_LINE]),
-    ("unblotted_line", &[0, INPUT_LENGTH, VALUE_OVER, OUTPUT_LENGTH, NO_LINE]),
-    ("better_scan", &[0, INPUT_LENGTH, VALUE_OVER, RADIUS_OVER, NO_LINE]),
-    ("list_ring", &[0, INPUT_LENGTH, VALUE_OVER, RADIUS_OVER, OUTPUT_LENGTH]),
-    ("read_ring", &[0, INPUT_LENGTH, VALUE_OVER, RADIUS_OVER, OUTPUT_LENGTH, NO_LINE, MANY_STARTS]),
-    ("panel_text", &[0, INPUT_LENGTH, VALUE_OVER, OUTPUT_LENGTH, TEMPLATE, UNKNOWN_KIND]),
-    ("panel_ring", &[0, INPUT_LENGTH, VALUE_OVER, RADIUS_OVER, OUTPUT_LENGTH, NO_LINE, MANY_STARTS, TEMPLATE, UNKNOWN_KIND]),
-    ("encode_block", &[0, VALUE_OVER, OUTPUT_LENGTH, ROW_COUNT]),
-    ("read_block", &[0, OUTPUT_LENGTH, ROW_COUNT, NO_BLOCK]),
-    ("step", &[0, VALUE_OVER, REGISTER_FULL]),
-    ("checks", &[0, VALUE_OVER, REGISTER_FULL, REGISTER_SHORT]),
-];
+const VERSION: u32 = 4005000;
 
 const UNTOUCHED: u8 = 170;
 
@@ -95,8 +75,7 @@ fn line_numbers(r: &Line) -> Vec<usize> {
 struct Comparison {
     code: Code,
     random: Random,
-    /// How often each call gave each answer.
-    given: BTreeMap<(&'static str, usize), u64>,
+    given: Given,
 }
 
 impl Comparison {
@@ -170,6 +149,11 @@ impl Comparison {
             let r = film_read_block(given, rows.len(), out, room);
             vec![r.answer as usize, r.distance as usize]
         });
+    }
+
+    /// So many bytes that are no characters, so that one which stays and one which is written differ.
+    fn no_characters(&mut self, count: usize) -> Vec<u8> {
+        self.random.bytes(count, 192).iter().map(|x| 64 + x).collect()
     }
 
     /// A number below one bound, or, one time in eight, below another.
@@ -348,7 +332,7 @@ fn main() {
         println!("version differs\nlibrary {version}\nsecond  {VERSION}");
         exit(1);
     }
-    let mut comparison = Comparison { code: Code::new(), random: Random::new(seed), given: BTreeMap::new() };
+    let mut comparison = Comparison { code: Code::new(), random: Random::new(seed), given: Given::new() };
     comparison.operands();
     comparison.looked_up();
     comparison.lengths();
@@ -361,6 +345,7 @@ fn main() {
     comparison.refused_among_right();
     comparison.blots();
     comparison.paper();
+    comparison.sheets();
     for i in 0..rounds {
         comparison.round(i % 8 == 0);
         if i % 8 == 0 {
@@ -377,15 +362,8 @@ fn main() {
         }
         if i % 64 == 0 {
             comparison.by_the_character();
+            comparison.any_sheet();
         }
     }
-    let mut missing = false;
-    for (call, answers) in ANSWERS {
-        let counts: Vec<String> = answers.iter().map(|&a| format!("{a}: {}", comparison.given.get(&(call, a as usize)).unwrap_or(&0))).collect();
-        println!("{call}: {}", counts.join(", "));
-        missing |= answers.iter().any(|&a| !comparison.given.contains_key(&(call, a as usize)));
-    }
-    let verdict = if missing { "and an answer that no call gave" } else { "no difference" };
-    println!("{} calls of the library, {verdict}", comparison.given.values().sum::<u64>());
-    exit(missing as i32);
+    exit(!answers::all_given(&comparison.given) as i32);
 }

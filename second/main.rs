@@ -22,6 +22,7 @@ mod refusals;
 mod ring;
 mod scans;
 mod sheet;
+mod sheets;
 mod spool;
 mod tray;
 mod twice;

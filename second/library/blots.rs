@@ -15,7 +15,7 @@ pub const LENGTHS: [usize; 4] = [0, 62, 63, 64];
 const TIMES: usize = 8;
 
 /// The address of bytes that are lent; where there are none it is null.
-fn address_of(lent: &mut Lent, length: usize) -> *mut u8 {
+pub fn address_of(lent: &mut Lent, length: usize) -> *mut u8 {
     if length == 0 { null_mut() } else { lent.pointer() }
 }
 

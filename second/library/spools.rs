@@ -11,9 +11,9 @@ const RADII: [u8; 9] = [0, 1, 2, 3, 4, 5, 6, 9, 255];
 const COUNTS: [usize; 7] = [0, 1, 2, PLACES - 1, PLACES, 256, 257];
 
 impl Comparison {
-    /// Reads a spool over bytes that are no characters, so that one which stays and one which is written differ.
+    /// Reads a spool over bytes that are no characters.
     fn read_spool(&mut self, spool: &[u8], radius: u8, room: usize) {
-        let old: Vec<u8> = self.random.bytes(room, 192).iter().map(|x| 64 + x).collect();
+        let old = self.no_characters(room);
         let due = spool::read(&self.code, spool, radius, &old);
         self.call_over(&old, "read_spool", spool, &[radius as usize], due.clone(), |given, out| unsafe {
             let r = film_read_spool(given, spool.len(), radius, out, room);

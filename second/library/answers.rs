@@ -1,0 +1,57 @@
+//! Which answers each call of the comparison can give, and whether each was given.
+
+use crate::refusals::*;
+use crate::sheet_calls::READ_SHEET;
+use std::collections::BTreeMap;
+
+/// How often each call gave each answer.
+pub type Given = BTreeMap<(&'static str, usize), u64>;
+
+/// Each call, and every answer that it can give. A spool's line and an unblotted one, a word with no blot, are read alone, by film_read_line; reading a
+/// sheet is another call for each number of rounds.
+const ANSWERS: [(&str, &[u8]); 31] = [
+    ("sum", &[0, VALUE_OVER]),
+    ("product", &[0, VALUE_OVER]),
+    ("quotient", &[0, VALUE_OVER, QUOTIENT_BY_ZERO]),
+    ("encode_line", &[0, INPUT_LENGTH, VALUE_OVER, NUMBER_OVER, OUTPUT_LENGTH]),
+    ("read_line", &[0, INPUT_LENGTH, VALUE_OVER, RADIUS_OVER, OUTPUT_LENGTH, NO_LINE]),
+    ("read_line_wanted", &[0, INPUT_LENGTH, VALUE_OVER, RADIUS_OVER, NUMBER_OVER, OUTPUT_LENGTH, NO_LINE, OTHER_NUMBER]),
+    ("read_line_paper", &[0, INPUT_LENGTH, VALUE_OVER, RADIUS_OVER, OUTPUT_LENGTH, NO_LINE]),
+    ("read_line_paper_wanted", &[0, INPUT_LENGTH, VALUE_OVER, RADIUS_OVER, NUMBER_OVER, OUTPUT_LENGTH, NO_LINE, OTHER_NUMBER]),
+    ("read_spool", &[0, INPUT_LENGTH, OUTPUT_LENGTH]),
+    ("spool_line", &[0, VALUE_OVER, RADIUS_OVER, NO_LINE]),
+    ("encode_sheet", &[0, INPUT_LENGTH, VALUE_OVER, NUMBER_OVER, OUTPUT_LENGTH]),
+    (READ_SHEET[0], &[INPUT_LENGTH, VALUE_OVER, OUTPUT_LENGTH]),
+    (READ_SHEET[1], &[0, IMPROPER_SHEET]),
+    (READ_SHEET[2], &[0, IMPROPER_SHEET]),
+    (READ_SHEET[3], &[0, IMPROPER_SHEET]),
+    (READ_SHEET[4], &[0, IMPROPER_SHEET]),
+    (READ_SHEET[5], &[0, IMPROPER_SHEET]),
+    (READ_SHEET[6], &[0, IMPROPER_SHEET]),
+    (READ_SHEET[7], &[0, IMPROPER_SHEET]),
+    (READ_SHEET[8], &[0, IMPROPER_SHEET]),
+    ("read_blotted", &[0, INPUT_LENGTH, VALUE_OVER, OUTPUT_LENGTH, NO_LINE]),
+    ("unblotted_line", &[0, INPUT_LENGTH, VALUE_OVER, OUTPUT_LENGTH, NO_LINE]),
+    ("better_scan", &[0, INPUT_LENGTH, VALUE_OVER, RADIUS_OVER, NO_LINE]),
+    ("list_ring", &[0, INPUT_LENGTH, VALUE_OVER, RADIUS_OVER, OUTPUT_LENGTH]),
+    ("read_ring", &[0, INPUT_LENGTH, VALUE_OVER, RADIUS_OVER, OUTPUT_LENGTH, NO_LINE, MANY_STARTS]),
+    ("panel_text", &[0, INPUT_LENGTH, VALUE_OVER, OUTPUT_LENGTH, TEMPLATE, UNKNOWN_KIND]),
+    ("panel_ring", &[0, INPUT_LENGTH, VALUE_OVER, RADIUS_OVER, OUTPUT_LENGTH, NO_LINE, MANY_STARTS, TEMPLATE, UNKNOWN_KIND]),
+    ("encode_block", &[0, VALUE_OVER, OUTPUT_LENGTH, ROW_COUNT]),
+    ("read_block", &[0, OUTPUT_LENGTH, ROW_COUNT, NO_BLOCK]),
+    ("step", &[0, VALUE_OVER, REGISTER_FULL]),
+    ("checks", &[0, VALUE_OVER, REGISTER_FULL, REGISTER_SHORT]),
+];
+
+/// Prints how often each call gave each answer, and tells whether all were given.
+pub fn all_given(given: &Given) -> bool {
+    let mut missing = false;
+    for (call, answers) in ANSWERS {
+        let counts: Vec<String> = answers.iter().map(|&a| format!("{a}: {}", given.get(&(call, a as usize)).unwrap_or(&0))).collect();
+        println!("{call}: {}", counts.join(", "));
+        missing |= answers.iter().any(|&a| !given.contains_key(&(call, a as usize)));
+    }
+    let verdict = if missing { "and an answer that no call gave" } else { "no difference" };
+    println!("{} calls of the library, {verdict}", given.values().sum::<u64>());
+    !missing
+}

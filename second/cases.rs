@@ -16,6 +16,7 @@ mod panel;
 mod paper;
 mod ring;
 mod scans;
+mod sheets;
 mod spool;
 mod twice;
 mod words;
@@ -45,13 +46,15 @@ const READ_SPOOL: Call = Call(16, "read_spool");
 const READ_BLOTTED: Call = Call(17, "read_blotted");
 const READ_LINE_PAPER: Call = Call(18, "read_line_paper");
 const READ_LINE_PAPER_WANTED: Call = Call(19, "read_line_paper_wanted");
+const READ_SHEET: Call = Call(20, "read_sheet");
+const ENCODE_SHEET: Call = Call(21, "encode_sheet");
 
 /// What is handed over: the head's fields, and the input.
 struct Case<'a> {
     call: Call,
     /// A radius, an operand or a character.
     small: u8,
-    /// The number of a line, a wanted one, a register's count, or the length of the first of two scans or of a word before its map.
+    /// The number of a line, a wanted one, a register's count, or a length: of the first of two scans, of a word before its map or of texts before numbers.
     number: u16,
     /// The length of the output that is lent.
     room: usize,
@@ -118,6 +121,7 @@ pub fn stored() -> (Vec<u8>, String) {
         spool::add_all,
         blots::add_all,
         paper::add_all,
+        sheets::add_all,
     ];
     for add_all in sections {
         add_all(&mut cases);

@@ -2,7 +2,7 @@
 //
 // Standard input is one case after another: a head of eight bytes, and then the input. The head is these bytes, a number's high byte first:
 // the call; a small number (a radius, a first operand or a character); a number of two bytes (of a line, wanted, a register's count, or the length of
-// the first of two scans or of a word before its map);
+// the first of two scans, of a word before its map or of texts before numbers);
 // the length of the output that is lent, in two bytes; the length of the input, in two bytes. No case is too long: there is room for every
 // length that two bytes can say. The output is lent with LENT in every byte, so that it shows where it is left alone.
 //
@@ -13,6 +13,8 @@
 // input that is handed back; the bytes are that part's.
 // Read spool: the numbers are the answer, and those of each place, as reading its line gives them, up to the last that does not hold only zeros.
 // Read blotted: the input is the word and its map, one after the other.
+// Read sheet: the numbers are the answer and the rounds.
+// Encode sheet: the input is the texts, and after them the numbers, two bytes each; numbers past MOST_NUMBERS of sheets.rt are left out.
 // Step and checks: the input is the eleven characters held (0 for each that is not there), and the number's low byte is the count.
 // Any other call: `passed over`.
 // The run ends where the input ends, also within a case, or after MOST_CASES.
@@ -28,6 +30,7 @@ use libc::STDIN_FILENO;
 use libc::STDOUT_FILENO;
 
 mod lines;
+mod sheets;
 
 const SUM: u8 = 1;
 
@@ -66,6 +69,10 @@ const READ_BLOTTED: u8 = 17;
 const READ_LINE_PAPER: u8 = 18;
 
 const READ_LINE_PAPER_WANTED: u8 = 19;
+
+const READ_SHEET: u8 = 20;
+
+const ENCODE_SHEET: u8 = 21;
 
 // The length of a head.
 const HEAD: usize = 8;
@@ -300,6 +307,8 @@ fn hand_over(call: u8, small: u8, number: u16, input: &[u8], output: &mut [u8]) 
         READ_BLOTTED => lines::read_with_map(input, wide(number), output),
         READ_LINE_PAPER => lines::read_line_paper(input, small, output),
         READ_LINE_PAPER_WANTED => lines::read_line_paper_wanted(input, small, number, output),
+        READ_SHEET => sheets::read_sheet(input, output),
+        ENCODE_SHEET => sheets::encode_from(input, wide(number), output),
         _ => pass_over(),
     }
 }

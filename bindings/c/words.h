@@ -2,6 +2,7 @@
 #ifndef WORDS_H
 #define WORDS_H
 
+#include "chance.h"
 #include "expect.h"
 #include "film.h"
 #include <string.h>
@@ -18,13 +19,6 @@ static uint8_t *const out = memory + SIDE, *const due_out = due + SIDE;
 /* Lengths that are not 63. */
 static const size_t wrong_lengths[] = {0, 1, 62, 64, 126};
 enum { WRONG_LENGTHS = sizeof wrong_lengths / sizeof wrong_lengths[0] };
-
-/* Numbers that look like chance, the same in every run. */
-static uint32_t chance = 1;
-static int below(int bound) {
-    chance = chance * 1664525 + 1013904223;
-    return (int)((chance >> 8) % (uint32_t)bound);
-}
 
 static void lend(void) {
     memset(memory, OLD, sizeof memory);

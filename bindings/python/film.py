@@ -1,4 +1,4 @@
-"""The proved film reader: lines, with blots too, spools of lines, rings, text for a panel and parity blocks, and the field and the register below them.
+"""The proved film reader: lines, with blots too, spools, sheets, rings, text for a panel and parity blocks, and the field and the register below them.
 
 Every function takes whatever bytes and numbers it is handed. It gives back what it found, or raises Refused, which says by number why not.
 A character is a byte from 0 to 63, and a line is 63 of them.
@@ -9,36 +9,37 @@ A character is a byte from 0 to 63, and a line is 63 of them.
     >>> read_ring(line[4:] + line[:4], 1).start
     59
 
-Where an output `out` is handed in (a bytearray), it is written in place of a new one; in a refusal it is as it was. The shared library is
-the one that FILM_LIBRARY names, or target/film/libfilm.so of this checkout, which tools/build-library makes; one of another major version is
-an ImportError.
+Where an output `out` is handed in (a bytearray), it is written in place of a new one; in a refusal it is as it was, but for an ImproperSheet. The
+shared library is the one that FILM_LIBRARY names, or target/film/libfilm.so of this checkout, which tools/build-library makes; one of another major
+version is an ImportError.
 """
 
-import ctypes
-import os
-import pathlib
 from typing import NamedTuple, Optional
 
-# tools/tables writes this from version.txt, and the refusals below from refusals.txt.
-__version__ = "4.4.0"
+import film_library
 
-_u8 = ctypes.c_uint8
-_u16 = ctypes.c_uint16
-_u32 = ctypes.c_uint32
+# tools/tables writes this from version.txt, and the refusals below from refusals.txt.
+__version__ = "4.5.0"
 
 # In the place of an address: nothing was changed.
 NOWHERE = 63
 
 # The most lines of a spool, and the most bytes.
-PLACES = 255
+PLACES = film_library.PLACES
 SPOOL = 63 * PLACES
+
+# The bytes of a sheet and those of its texts, how many of its lines have numbers of their own, and the most rounds of reading it.
+SHEET = 3969
+TEXTS = 2600
+NUMBERS = 52
+ROUNDS = 8
 
 # The least output of panel text, and the longest text for a panel.
 PANEL = 294
 
 # The numbered answers, as the paper gives them; 0 is a success.
 REFUSALS = {
-    1: "a line, ring or map of blots is not 63 long, a text is not 50 long, or a spool's length is no multiple of 63 or is over 16,065",
+    1: "a line, ring or map of blots is not 63 long, a text is not 50 long, a sheet is not 3,969 long, its texts are not 2,600 long or its numbers not 52, or a spool's length is no multiple of 63 or is over 16,065",
     2: "a character (a register's too) or field operand is over 63, a data row over 127, or a byte of a map over 1",
     3: "radius over 5",
     4: "number over 4095",
@@ -53,6 +54,7 @@ REFUSALS = {
     13: "quotient by zero",
     14: "panel text: the kind is 1, a template",
     15: "panel text: the kind is over 1",
+    16: "sheet reading: what the rounds leave is no proper sheet; it is written all the same, and the rounds are told",
 }
 
 
@@ -64,6 +66,17 @@ class Refused(Exception):
         self.number = number
 
 
+class ImproperSheet(Refused):
+    """What the rounds of reading a sheet left is no proper sheet: `sheet` is what they left, and `rounds` how many were run, the last counted."""
+
+    NUMBER = 16
+
+    def __init__(self, sheet, rounds):
+        super().__init__(self.NUMBER)
+        self.sheet = sheet
+        self.rounds = rounds
+
+
 class LineRead(NamedTuple):
     """A line that was read, its number, in how many addresses the word differs from it, and the first and the last of them, or NOWHERE."""
 
@@ -72,6 +85,13 @@ class LineRead(NamedTuple):
     distance: int
     first: int
     last: int
+
+
+class SheetRead(NamedTuple):
+    """A proper sheet, and how many rounds were run, the last counted."""
+
+    sheet: bytes
+    rounds: int
 
 
 class RingRead(NamedTuple):
@@ -93,95 +113,7 @@ class BlockRead(NamedTuple):
     distance: int
 
 
-class _Element(ctypes.Structure):
-    _fields_ = [("answer", _u8), ("value", _u8)]
-
-
-class _Line(ctypes.Structure):
-    _fields_ = [("answer", _u8), ("distance", _u8), ("number", _u16), ("first", _u8), ("last", _u8)]
-
-
-class _Spool(ctypes.Structure):
-    _fields_ = [("places", _Line * PLACES), ("answer", _u8)]
-
-
-class _Choice(ctypes.Structure):
-    _fields_ = [("answer", _u8), ("scan", _u8)]
-
-
-class _List(ctypes.Structure):
-    _fields_ = [("answer", _u8), ("count", _u8)]
-
-
-class _Ring(ctypes.Structure):
-    _fields_ = [("answer", _u8), ("start", _u8), ("distance", _u8), ("number", _u16), ("first", _u8), ("last", _u8)]
-
-
-class _Panel(ctypes.Structure):
-    _fields_ = [("answer", _u8), ("length", _u16)]
-
-
-class _Block(ctypes.Structure):
-    _fields_ = [("answer", _u8), ("distance", _u8)]
-
-
-class _Register(ctypes.Structure):
-    _fields_ = [("held", _u8 * 11), ("count", _u8)]
-
-
-class _Stepped(ctypes.Structure):
-    _fields_ = [("after", _Register), ("answer", _u8)]
-
-
-class _Checked(ctypes.Structure):
-    _fields_ = [("checks", _u8 * 11), ("answer", _u8)]
-
-
-def _check_version(library, path):
-    """A library of another major version is not taken: its structs may be laid out otherwise."""
-    own = int(__version__.split(".")[0])
-    if not hasattr(library, "film_version"):
-        raise ImportError(f"{path} tells no version; this binding is for major version {own}")
-    library.film_version.argtypes, library.film_version.restype = [], _u32
-    major = library.film_version() // 1000000
-    if major != own:
-        raise ImportError(f"{path} is of major version {major}; this binding is for major version {own}")
-
-
-def _load(path):
-    """The library at a path, with the types of its functions."""
-    library = ctypes.CDLL(path)
-    _check_version(library, path)
-    given = [ctypes.c_char_p, ctypes.c_size_t]
-    output = [ctypes.POINTER(_u8), ctypes.c_size_t]
-    for name, takes, gives in [
-        ("sum", [_u8, _u8], _Element),
-        ("product", [_u8, _u8], _Element),
-        ("quotient", [_u8, _u8], _Element),
-        ("encode_line", given + [_u16] + output, _u8),
-        ("step", [_Register, _u8], _Stepped),
-        ("checks", [_Register], _Checked),
-        ("read_line", given + [_u8] + output, _Line),
-        ("read_line_wanted", given + [_u8, _u16] + output, _Line),
-        ("read_line_paper", given + [_u8] + output, _Line),
-        ("read_line_paper_wanted", given + [_u8, _u16] + output, _Line),
-        ("read_blotted", given + given + output, _Line),
-        ("read_spool", given + [_u8] + output, _Spool),
-        ("better_scan", given + given + [_u8], _Choice),
-        ("list_ring", given + [_u8] + output, _List),
-        ("read_ring", given + [_u8] + output, _Ring),
-        ("panel_text", given + output, _Panel),
-        ("panel_ring", given + [_u8] + output, _Panel),
-        ("encode_block", given + output, _u8),
-        ("read_block", given + output, _Block),
-    ]:
-        function = getattr(library, "film_" + name)
-        function.argtypes, function.restype = takes, gives
-    return library
-
-
-_beside = pathlib.Path(__file__).resolve().parents[2] / "target" / "film" / "libfilm.so"
-_library = _load(os.environ.get("FILM_LIBRARY", str(_beside)))
+_library = film_library.load(film_library.shared_library(), int(__version__.split(".")[0]))
 
 
 def _bounded(number, most):
@@ -202,17 +134,23 @@ def _bytes(given):
     return bytes(given)
 
 
-def _call(function, given, *others, room, out):
-    """Calls a function with an input, what it takes besides and an output: gives what it answers, and the output as it is then."""
+def _answered(function, given, *others, room, out):
+    """Calls a function with an input, what it takes besides and an output: gives what it answers, a refusal too, and the output as it is then."""
     given = _bytes(given)
     if out is None:
         out = bytearray(room)
-    lent = (_u8 * len(out)).from_buffer(out)
+    lent = (film_library.u8 * len(out)).from_buffer(out)
     result = function(given, len(given), *others, lent, len(out))
+    return result, bytes(out)
+
+
+def _call(function, given, *others, room, out):
+    """The same, but that a refusal is raised."""
+    result, written = _answered(function, given, *others, room=room, out=out)
     answer = result if isinstance(result, int) else result.answer
     if answer:
         raise Refused(answer)
-    return result, bytes(out)
+    return result, written
 
 
 def _value(result):
@@ -309,6 +247,38 @@ def read_spool(lines, radius, out: Optional[bytearray] = None) -> "list[LineRead
     return [Refused(place.answer) if place.answer else _line_read(place, read[at : at + 63]) for place, at in zip(result.places, starts)]
 
 
+def encode_sheet(texts, numbers, out: Optional[bytearray] = None) -> bytes:
+    """The one proper sheet whose first 52 lines have these 52 texts of 50 characters, one after the other, and these 52 numbers. Its last eleven lines, text
+    and number field too, are what the columns force."""
+    numbers = [_bounded(number, 65535) for number in numbers]
+    return _call(_library.film_encode_sheet, texts, (film_library.u16 * len(numbers))(*numbers), len(numbers), room=SHEET, out=out)[1]
+
+
+def read_sheet(sheet, out: Optional[bytearray] = None) -> SheetRead:
+    """A sheet, 63 lines of 63 characters, read in rounds: each line with radius 5, then each column, marks off; what cannot be read is left. Rounds go on until
+    one ends as it began or ROUNDS are done. Where at most five lines are damaged in any way, and each other in at most five characters, this gives the
+    sheet, after 2 rounds (1 where nothing is damaged). Where what the rounds leave is not proper it raises ImproperSheet, which has it and their number; an
+    output that is handed in gets it too.
+
+    >>> sheet = encode_sheet(bytes(TEXTS), range(NUMBERS))
+    >>> scan = bytes([7] * 5 * 63) + sheet[5 * 63 :]
+    >>> read = read_sheet(scan)
+    >>> read.sheet == sheet, read.rounds
+    (True, 2)
+    >>> try:
+    ...     read_sheet(bytes([7] * 6 * 63) + sheet[6 * 63 :])
+    ... except ImproperSheet as improper:
+    ...     print(improper.sheet[6 * 63 :] == sheet[6 * 63 :], improper.rounds)
+    True 2
+    """
+    result, left = _answered(_library.film_read_sheet, sheet, room=SHEET, out=out)
+    if result.answer == ImproperSheet.NUMBER:
+        raise ImproperSheet(left, result.rounds)
+    if result.answer:
+        raise Refused(result.answer)
+    return SheetRead(left, result.rounds)
+
+
 def better_scan(first, second, radius):
     """The better of two scans of one line, each read with the radius and no wanted number: the caller's own object of the scan that is read with the smaller
     distance, the first where they tie; the other where one is refused. Where both are, the refusal is the first's.
@@ -381,7 +351,7 @@ class Register:
             raise ValueError("a register holds eleven characters")
 
     def _lent(self):
-        return _Register((_u8 * 11)(*self.held), _byte(self.count))
+        return film_library.Register((film_library.u8 * 11)(*self.held), _byte(self.count))
 
     def step(self, character):
         """Takes one more character; a refused step leaves the register as it was."""

@@ -1,4 +1,4 @@
-"""Tests of film.py, but for blots and the method of 1968: what each function gives, every refusal by its number, and outputs that stay as they were."""
+"""Tests of film.py, but for sheets, blots and the method of 1968: what each function gives, every refusal by its number, and outputs that stay as they were."""
 
 import doctest
 import itertools
@@ -9,6 +9,7 @@ import tempfile
 import unittest
 
 import film
+import film_library
 import words
 
 Z = film.encode_line(bytes(50), 0)
@@ -303,7 +304,7 @@ class Tests(words.TestCase):
                 library = pathlib.Path(folder) / f"{len(says)}.so"
                 subprocess.run([os.environ.get("CC", "gcc"), "-shared", "-fPIC", "-x", "c", "-", "-o", library], input=source.encode(), check=True)
                 with self.assertRaisesRegex(ImportError, says):
-                    film._load(str(library))
+                    film_library.load(str(library), film.version() // 1000000)
 
     def test_documentation(self):
         self.assertEqual(doctest.testmod(film).failed, 0)

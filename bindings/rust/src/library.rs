@@ -24,6 +24,12 @@ pub struct Spool {
 }
 
 #[repr(C)]
+pub struct Sheet {
+    pub answer: u8,
+    pub rounds: u8,
+}
+
+#[repr(C)]
 pub struct Choice {
     pub answer: u8,
     pub scan: u8,
@@ -82,6 +88,8 @@ extern "C" {
     fn film_read_line_paper_wanted(word: *const u8, word_len: usize, radius: u8, wanted: u16, out: *mut u8, out_len: usize) -> Line;
     fn film_read_blotted(word: *const u8, word_len: usize, map: *const u8, map_len: usize, out: *mut u8, out_len: usize) -> Line;
     fn film_read_spool(lines: *const u8, lines_len: usize, radius: u8, out: *mut u8, out_len: usize) -> Spool;
+    fn film_read_sheet(sheet: *const u8, sheet_len: usize, out: *mut u8, out_len: usize) -> Sheet;
+    fn film_encode_sheet(texts: *const u8, texts_len: usize, numbers: *const u16, numbers_len: usize, out: *mut u8, out_len: usize) -> u8;
     fn film_better_scan(first: *const u8, first_len: usize, second: *const u8, second_len: usize, radius: u8) -> Choice;
     fn film_list_ring(ring: *const u8, ring_len: usize, radius: u8, out: *mut u8, out_len: usize) -> List;
     fn film_read_ring(ring: *const u8, ring_len: usize, radius: u8, out: *mut u8, out_len: usize) -> Ring;
@@ -138,6 +146,14 @@ pub fn read_blotted(word: &[u8], map: &[u8], out: &mut [u8]) -> Line {
 
 pub fn read_spool(lines: &[u8], radius: u8, out: &mut [u8]) -> Spool {
     unsafe { film_read_spool(lines.as_ptr(), lines.len(), radius, out.as_mut_ptr(), out.len()) }
+}
+
+pub fn read_sheet(sheet: &[u8], out: &mut [u8]) -> Sheet {
+    unsafe { film_read_sheet(sheet.as_ptr(), sheet.len(), out.as_mut_ptr(), out.len()) }
+}
+
+pub fn encode_sheet(texts: &[u8], numbers: &[u16], out: &mut [u8]) -> u8 {
+    unsafe { film_encode_sheet(texts.as_ptr(), texts.len(), numbers.as_ptr(), numbers.len(), out.as_mut_ptr(), out.len()) }
 }
 
 pub fn better_scan(first: &[u8], second: &[u8], radius: u8) -> Choice {

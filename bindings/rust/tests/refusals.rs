@@ -1,4 +1,5 @@
-//! Tests of the crate, but for spools, blots and the method of 1968: what each function gives, every refusal by its number, and outputs that stay as they were.
+//! Tests of the crate, but for spools, sheets, blots and the method of 1968: what each function gives, every refusal by its number, and outputs that stay as they
+//! were.
 
 use film::{Refusal, Register};
 

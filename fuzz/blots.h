@@ -41,12 +41,6 @@ static int free_address(const made *m, const uint8_t *map, int from, int is_chan
     return from;
 }
 
-/* Any address, the first or the last at times: what is passed over is most often an end. */
-static int take_address(void) {
-    uint8_t how = take();
-    return how < 224 ? how % FILM_CHARACTERS : how & 1 ? 0 : FILM_CHARACTERS - 1;
-}
-
 /* A map of up to thirteen blots, some aimed at changed characters, some with another character at them; or any map. At times one byte is set to anything. */
 static void take_map(made *m, uint8_t *map) {
     uint8_t how = take(), aimed = take(), spoilt = take(), poke = take();

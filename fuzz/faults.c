@@ -1,12 +1,13 @@
 /* Faults that the fuzz target has to find: each stands between the target and the library. `fuzz/run faults` builds one after the other.
+ * sheet_faults.h has those of sheets.
  *
  * It is built without sanitizers, as the library is. */
 #include "film.h"
+#include "sheet_faults.h"
 #include <string.h>
 
 film_element __real_film_product(uint8_t u, uint8_t v);
 film_element __real_film_quotient(uint8_t u, uint8_t v);
-film_line __real_film_read_line(const uint8_t *word, size_t word_len, uint8_t radius, uint8_t *out, size_t out_len);
 film_line __real_film_read_line_paper(const uint8_t *word, size_t word_len, uint8_t radius, uint8_t *out, size_t out_len);
 film_line __real_film_read_line_paper_wanted(const uint8_t *word, size_t word_len, uint8_t radius, uint16_t wanted, uint8_t *out, size_t out_len);
 film_line __real_film_read_blotted(const uint8_t *word, size_t word_len, const uint8_t *map, size_t map_len, uint8_t *out, size_t out_len);

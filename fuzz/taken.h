@@ -28,6 +28,17 @@ static size_t take_length(size_t stated) {
     return take_two() % LONGEST;
 }
 
+/* Any address, or any place of so many; the first or the last at times: what is passed over is most often an end. */
+static int take_address(void) {
+    uint8_t how = take();
+    return how < 224 ? how % FILM_CHARACTERS : how & 1 ? 0 : FILM_CHARACTERS - 1;
+}
+
+static size_t take_place(size_t length) {
+    uint8_t how = take();
+    return how < 192 ? take_two() % length : how & 1 ? 0 : length - 1;
+}
+
 /* A line of any text and number. */
 static void take_line(uint8_t *line) {
     uint16_t number = take_two() % 4096;
@@ -53,7 +64,7 @@ static made take_word(void) {
     } else {
         uint8_t places[8], values[8];
         for (int i = 0; i < wrong; i++)
-            places[i % 8] = take() % 63, values[i % 8] = take() & 63;
+            places[i % 8] = (uint8_t)take_address(), values[i % 8] = take() & 63;
         take_line(m.line);
         m.is_made = 1;
         memcpy(m.word, m.line, 63);

@@ -1,6 +1,7 @@
 /* The fuzz target: every function of include/film.h on hostile bytes, each answer and each output byte held against plain C.
- * rules.h has the rules; the calls stand in encoding.h, lines.h, paper.h, blots.h, spool.h, rings.h, panel.h and blocks.h, and each
- * works out what it can of the answer first, in the order of the refusals; those of paper.h have to give what those of lines.h gave.
+ * rules.h has the rules; the calls stand in encoding.h, lines.h, paper.h, blots.h, spool.h, sheet.h, rings.h, panel.h and blocks.h, and
+ * each works out what it can of the answer first, in the order of the refusals; those of paper.h have to give what those of lines.h
+ * gave. dust.h makes sheets of few bytes.
  *
  * fuzz/run builds it with libFuzzer and the address and undefined-behaviour sanitizers, and runs it. The library is linked as it
  * is proved, so the sanitizers do not see into it. Its slices therefore lie against pages that nobody may touch: the input ends
@@ -10,6 +11,7 @@
 #include "answers.h"
 #include "blocks.h"
 #include "blots.h"
+#include "dust.h"
 #include "encoding.h"
 #include "lent.h"
 #include "lines.h"
@@ -17,6 +19,7 @@
 #include "paper.h"
 #include "rings.h"
 #include "rules.h"
+#include "sheet.h"
 #include "spool.h"
 #include "taken.h"
 
@@ -24,6 +27,7 @@ int LLVMFuzzerInitialize(int *argc, char ***argv) {
     (void)argc, (void)argv;
     HOLDS(film_version() == FILM_VERSION);
     make_powers();
+    make_first_sheet();
     prepare(&input, PAGE, PROT_READ);
     prepare(&second_input, PAGE, PROT_READ);
     prepare(&output, PAGE, PROT_READ | PROT_WRITE);
@@ -36,7 +40,8 @@ int LLVMFuzzerInitialize(int *argc, char ***argv) {
 
 int LLVMFuzzerTestOneInput(const uint8_t *data, size_t size) {
     static void (*const calls[])(void) = {field_calls, register_calls, encode_line_call, read_line_calls, recurrence_calls, scan_calls, merged_call,
-                                          moved_call, blots_call, spool_call, ring_calls, panel_text_call, panel_ring_call, block_calls};
+                                          moved_call, blots_call, spool_call, encode_sheet_call, read_sheet_call, ring_calls, panel_text_call,
+                                          panel_ring_call, block_calls};
     next = data;
     left = size;
     calls[take() % (sizeof calls / sizeof calls[0])]();

@@ -1,8 +1,8 @@
 /* The benchmark: the library, libfec and the second program on the same words, interleaved, the minimum of many rounds.
  *
  * bench/run builds and runs it. A time is that of the whole call, from the caller's characters to the caller's line, number, distance
- * and changed addresses, or text; of a spool, that of one of its lines. bench/peers.c has libfec, and plain C for what libfec has nothing
- * of. Before anything is timed, all peers must give the same answers on all words. */
+ * and changed addresses, or text; of a spool, that of one of its lines. bench/ours.c has the library, bench/peers.c libfec, and plain C for
+ * what libfec has nothing of. Before anything is timed, all peers must give the same answers on all words. */
 #include "bench.h"
 #include "film.h"
 #include <stdio.h>
@@ -10,106 +10,18 @@
 #include <string.h>
 #include <time.h>
 
-/* ---- The library. */
-
-static void ours_encode(const uint8_t *input, uint8_t radius, reply *r) {
-    (void)radius;
-    r->answer = film_encode_line(input, 50, (uint16_t)(input[50] * 64 + input[51]), r->out, 63);
-    r->distance = 0, r->number = 0, r->length = 63;
-}
-
-static void ours_encode_by_character(const uint8_t *input, uint8_t radius, reply *r) {
-    (void)radius;
-    film_register taken = {{0}, 0};
-    for (int a = 0; a < 52; a++)
-        taken = film_step(taken, input[a]).after;
-    film_checked checked = film_checks(taken);
-    memcpy(r->out, input, 52);
-    memcpy(r->out + 52, checked.checks, 11);
-    r->answer = checked.answer, r->distance = 0, r->number = 0, r->length = 63;
-}
-
-static void ours_line(film_line line, reply *r) {
-    r->answer = line.answer, r->distance = line.distance, r->number = line.number, r->length = line.answer == 0 ? 63 : 0;
-    r->first = line.first, r->last = line.last;
-}
-
-static void ours_read(const uint8_t *input, uint8_t radius, reply *r) {
-    ours_line(film_read_line(input, 63, radius, r->out, 63), r);
-}
-
-static void ours_paper(const uint8_t *input, uint8_t radius, reply *r) {
-    ours_line(film_read_line_paper(input, 63, radius, r->out, 63), r);
-}
-
-static void ours_blotted(const uint8_t *input, uint8_t radius, reply *r) {
-    (void)radius;
-    ours_line(film_read_blotted(input, 63, input + 63, 63, r->out, 63), r);
-}
-
-static void ours_better(const uint8_t *input, uint8_t radius, reply *r) {
-    film_choice choice = film_better_scan(input, 63, input + 63, 63, radius);
-    r->answer = choice.answer, r->distance = 0, r->number = choice.scan, r->length = 0;
-}
-
-static void ours_list(const uint8_t *input, uint8_t radius, reply *r) {
-    film_list list = film_list_ring(input, 63, radius, r->out, 126);
-    r->answer = list.answer, r->distance = 0, r->number = 0, r->length = list.count;
-}
-
-static void ours_block(const uint8_t *input, uint8_t radius, reply *r) {
-    (void)radius;
-    film_block block = film_read_block(input, 9, r->out, 9);
-    r->answer = block.answer, r->distance = block.distance, r->number = 0, r->length = block.answer == 0 ? 9 : 0;
-}
-
-static void ours_products(const uint8_t *input, uint8_t radius, reply *r) {
-    (void)radius;
-    r->answer = 0, r->distance = 0, r->number = 0, r->length = 62;
-    for (int i = 0; i < 62; i++)
-        r->out[i] = film_product(input[i], input[i + 1]).value;
-}
-
-static void ours_quotients(const uint8_t *input, uint8_t radius, reply *r) {
-    (void)radius;
-    r->answer = 0, r->distance = 0, r->number = 0, r->length = 62;
-    for (int i = 0; i < 62; i++) {
-        film_element quotient = film_quotient(input[i], input[i + 1]);
-        r->distance += quotient.answer == FILM_QUOTIENT_BY_ZERO;
-        r->out[i] = quotient.value;
-    }
-}
-
-static void ours_panel(film_panel panel, reply *r) {
-    r->answer = panel.answer, r->distance = 0, r->number = 0, r->length = panel.length;
-}
-
-static void ours_panel_text(const uint8_t *input, uint8_t radius, reply *r) {
-    (void)radius;
-    ours_panel(film_panel_text(input, FILM_TEXT, r->out, FILM_PANEL), r);
-}
-
-static void ours_panel_ring(const uint8_t *input, uint8_t radius, reply *r) {
-    ours_panel(film_panel_ring(input, FILM_CHARACTERS, radius, r->out, FILM_PANEL), r);
-}
-
-static void ours_spool(const uint8_t *input, uint8_t radius, reply *r) {
-    film_spool spool = film_read_spool(input, FILM_SPOOL, radius, r->out, FILM_SPOOL);
-    memcpy(r->places, spool.places, sizeof r->places);
-    r->answer = spool.answer, r->distance = 0, r->number = 0, r->length = spool.answer == 0 ? FILM_SPOOL : 0;
-}
-
-/* ---- The rows, and their words. */
-
-enum { LINES = 128, RINGS = 4, SPOOLS = 8, OURS = 0, FEC = 1, SECOND = 2, PEERS = 3, SELDOM = 20 };
+enum { LINES = 128, RINGS = 4, SPOOLS = 8, SHEETS = 4, OURS = 0, FEC = 1, SECOND = 2, PEERS = 3, SELDOM = 20 };
 
 static const char *const peer_names[PEERS] = {"film", "libfec", "second"};
 
-typedef enum { ENCODE, READ, SCANS, RING, NOISE, BLOCK, FIELD, PANEL, PANEL_RING, SPOOL, BLOTS, CLEAN_BLOTS, NOISE_LINE } kind;
+typedef enum { ENCODE, READ, SCANS, RING, NOISE, BLOCK, FIELD, PANEL, PANEL_RING, SPOOL, BLOTS, CLEAN_BLOTS, NOISE_LINE, SHEET } kind;
 
 /* Lines with one error in a spool of the mix. Table 1 of source document 001 has 849,085 single errors in 108,366,272 lines: 1.998 in 255. More errors than
  * one have 9,116 of its lines, 0.021 in 255 and 0.17 in the row's eight spools: nearest to that is none. */
 enum { MIXED = 2 };
+
+/* The most lines of a sheet that may be damaged in any way. */
+enum { DEAD = 5 };
 
 typedef struct {
     const char *name;
@@ -150,6 +62,8 @@ static row rows[] = {
     {"blots_8", BLOTS, 1, 8, 0, {ours_blotted, fec_blotted, second_blotted}, NULL, {0}},
     {"blots_11", BLOTS, 0, 11, 0, {ours_blotted, fec_blotted, second_blotted}, NULL, {0}},
     {"blots_clean", CLEAN_BLOTS, 0, 4, 0, {ours_blotted, fec_blotted, second_blotted}, NULL, {0}},
+    {"sheet_clean", SHEET, 0, 0, 5, {ours_sheet, fec_sheet, second_sheet}, NULL, {0}},
+    {"sheet_5_dead_lines", SHEET, DEAD, 0, 5, {ours_sheet, fec_sheet, second_sheet}, NULL, {0}},
     /* the paper's way stands in the place of libfec, beside our own, so that the ratio is its time over ours */
     {"paper_0", READ, 0, 0, 5, {ours_read, ours_paper, second_read}, NULL, {0}},
     {"paper_1", READ, 1, 0, 5, {ours_read, ours_paper, second_read}, NULL, {0}},
@@ -173,9 +87,20 @@ static uint64_t below(uint64_t n) {
     return (x ^ x >> 31) % n;
 }
 
-static void characters(uint8_t *word) {
-    for (int a = 0; a < 63; a++)
-        word[a] = (uint8_t)below(64);
+static void characters_of(uint8_t *bytes, int length) {
+    for (int i = 0; i < length; i++)
+        bytes[i] = (uint8_t)below(64);
+}
+
+static void characters(uint8_t *word) { characters_of(word, 63); }
+
+/* Puts a 1 at so many of `of` places. */
+static void choose(int *chosen, uint64_t of, int n) {
+    while (n > 0) {
+        uint64_t i = below(of);
+        n -= !chosen[i];
+        chosen[i] = 1;
+    }
 }
 
 /* Changes so many characters, each at an address of its own, where there is no 1 in `changed`, and puts a 1 there. */
@@ -249,17 +174,27 @@ static void make_word(const row *w, uint8_t *word) {
     }
     case SPOOL: {
         int wrong[FILM_PLACES] = {0};
-        for (int n = w->wrong; n > 0;) {
-            uint64_t i = below(FILM_PLACES);
-            n -= !wrong[i];
-            wrong[i] = 1;
-        }
+        choose(wrong, FILM_PLACES, w->wrong);
         for (int i = 0; i < FILM_PLACES; i++) {
             characters(line);
             fec_encode(line, 0, &r);
             memcpy(word + 63 * i, r.out, 63);
             damage(word + 63 * i, wrong[i]);
         }
+        return;
+    }
+    case SHEET: { /* any characters in so many lines; each other line is whole */
+        int dead[FILM_CHARACTERS] = {0};
+        uint8_t texts[FILM_TEXTS];
+        uint16_t numbers[FILM_NUMBERS];
+        characters_of(texts, FILM_TEXTS);
+        for (int i = 0; i < FILM_NUMBERS; i++)
+            numbers[i] = (uint16_t)below(4096);
+        film_encode_sheet(texts, FILM_TEXTS, numbers, FILM_NUMBERS, word, FILM_SHEET);
+        choose(dead, FILM_CHARACTERS, w->wrong);
+        for (int i = 0; i < FILM_CHARACTERS; i++)
+            if (dead[i])
+                characters(word + 63 * i);
         return;
     }
     case BLOTS:
@@ -275,13 +210,14 @@ static void make_word(const row *w, uint8_t *word) {
     }
 }
 
-/* Two scans are two words, one after the other, a word with blots has its map after it, and a spool is 255 words. */
+/* Two scans are two words, one after the other, a word with blots has its map after it, a spool is 255 words, and a sheet 63. */
 static int stride(const row *w) {
-    return w->of == SCANS || w->of == BLOTS || w->of == CLEAN_BLOTS ? 2 : w->of == SPOOL ? FILM_PLACES : 1;
+    return w->of == SCANS || w->of == BLOTS || w->of == CLEAN_BLOTS ? 2 : w->of == SPOOL ? FILM_PLACES : w->of == SHEET ? FILM_CHARACTERS : 1;
 }
 
 static int words_of(const row *w) {
-    return w->of == RING || w->of == NOISE || w->of == PANEL_RING ? RINGS : w->of == SPOOL ? SPOOLS : LINES / stride(w);
+    int is_ring = w->of == RING || w->of == NOISE || w->of == PANEL_RING;
+    return is_ring ? RINGS : w->of == SPOOL ? SPOOLS : w->of == SHEET ? SHEETS : LINES / stride(w);
 }
 
 /* What the cost is given for: a call, but of a spool a line. */

@@ -222,6 +222,40 @@ void fec_spool(const uint8_t *input, uint8_t radius, reply *r) {
     }
 }
 
+/* A round by libfec: the 63 lines, and then the 63 columns, taken out with their marks off. It gives how many were not clean. */
+static int fec_round(uint8_t *sheet) {
+    uint8_t column[FILM_CHARACTERS], mark[FILM_CHARACTERS] = {0};
+    int others = 0;
+    marks(mark);
+    for (int i = 0; i < FILM_CHARACTERS; i++)
+        others += fec_mend(sheet + FILM_CHARACTERS * i, NULL, 0) != 0;
+    for (int a = 0; a < FILM_CHARACTERS; a++) {
+        for (int i = 0; i < FILM_CHARACTERS; i++)
+            column[i] = sheet[FILM_CHARACTERS * i + a] ^ mark[a];
+        int mended = decode_rs_char(fec, column, NULL, 0);
+        for (int i = 0; mended > 0 && i < FILM_CHARACTERS; i++)
+            sheet[FILM_CHARACTERS * i + a] = column[i] ^ mark[a];
+        others += mended != 0;
+    }
+    return others;
+}
+
+/* libfec reads a sheet in rounds of 126 calls, and takes it for proper where all words of the last round were clean. So they are wherever a round ends as it
+ * began with a proper sheet; one that is proper after the eighth round alone is none of the rows'. */
+void fec_sheet(const uint8_t *input, uint8_t radius, reply *r) {
+    (void)radius;
+    uint8_t before[FILM_SHEET];
+    int others;
+    memcpy(r->out, input, FILM_SHEET);
+    r->distance = 0, r->number = 0, r->length = FILM_SHEET;
+    do {
+        memcpy(before, r->out, FILM_SHEET);
+        others = fec_round(r->out);
+        r->number++;
+    } while (r->number < FILM_ROUNDS && memcmp(before, r->out, FILM_SHEET) != 0);
+    r->answer = others == 0 ? FILM_DONE : FILM_IMPROPER_SHEET;
+}
+
 int prepare_peers(void) {
     fec = init_rs_char(6, 0x43, 58, 1, 11, 0);
     make_logs();

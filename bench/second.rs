@@ -26,6 +26,8 @@ mod refusals;
 mod ring;
 #[path = "../second/scans.rs"]
 mod scans;
+#[path = "../second/sheets.rs"]
+mod sheets;
 #[path = "../second/spool.rs"]
 mod spool;
 
@@ -135,6 +137,12 @@ pub unsafe extern "C" fn second_spool(input: *const u8, radius: u8, r: &mut Repl
         let byte = |i: usize| numbers[i] as u8;
         *place = Place { answer: byte(0), distance: byte(2), number: numbers[1] as u16, first: byte(3), last: byte(4) };
     }
+}
+
+#[no_mangle]
+pub unsafe extern "C" fn second_sheet(input: *const u8, _: u8, r: &mut Reply) {
+    let (numbers, out) = sheets::read(code(), from_raw_parts(input, sheets::SHEET), &[0; sheets::SHEET]);
+    r.set(numbers[0] as u8, 0, numbers[1] as u16, &out);
 }
 
 #[no_mangle]

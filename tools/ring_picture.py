@@ -5,12 +5,14 @@ radius 4 on, and so with five."""
 
 import math
 
+from drawing import BLUE, GREEN, INK, ORANGE, PALE, arrow, framed, path, text
+
 PLACES = 63
 WIDTH, HEIGHT = 760, 510
 CENTRE = (270, 270)
 RING = 190
-INK, PALE, FOUR, FIVE, MARK = "#1a1a1a", "#b8b8b8", "#b3430a", "#0a5aa0", "#4d7a1f"
-HEAD = "The ring of a line recorded at start 0 with no wrong character: its true start, the false ones, and the marks. tools/tables writes it."
+FOUR, FIVE, MARK = ORANGE, BLUE, GREEN
+HEAD = "The ring of a line recorded at start 0 with no wrong character: its true start, the false ones, and the marks."
 
 
 def apart(marks, start):
@@ -25,20 +27,8 @@ def point(place, radius):
     return CENTRE[0] + radius * math.sin(angle), CENTRE[1] - radius * math.cos(angle)
 
 
-def path(points, more):
-    return f'<path d="M {" L ".join(f"{x:.1f} {y:.1f}" for x, y in points)} Z" {more}/>'
-
-
 def dot(x, y, size, more):
     return f'<circle cx="{x:.1f}" cy="{y:.1f}" r="{size}" {more}/>'
-
-
-def text(x, y, said, more=""):
-    return f'<text x="{x:.1f}" y="{y + 5:.1f}" {more}>{said}</text>'
-
-
-def arrow(tip, left, right, colour, filled):
-    return path([tip, left, right], f'fill="{colour if filled else "#ffffff"}" stroke="{colour}" stroke-width="2"')
 
 
 def start_arrow(place, forward, colour, filled):
@@ -92,17 +82,11 @@ def legend():
 
 def picture(marks):
     """The picture as a file's text. The marks are characters by address."""
-    lines = [
-        f"<!-- {HEAD} -->",
-        f'<svg xmlns="http://www.w3.org/2000/svg" viewBox="0 0 {WIDTH} {HEIGHT}" width="{WIDTH}" height="{HEIGHT}" role="img" '
-        'font-family="Helvetica, Arial, sans-serif" font-size="14">',
-        f"<title>{HEAD.partition('. ')[0]}</title>",
-        f'<rect width="{WIDTH}" height="{HEIGHT}" fill="#ffffff"/>',
+    elements = [
         *ring(marks),
         *direction(),
         *legend(),
         text(CENTRE[0], CENTRE[1] - 9, "a line recorded at start 0,", f'text-anchor="middle" fill="{INK}"'),
         text(CENTRE[0], CENTRE[1] + 9, "no character wrong", f'text-anchor="middle" fill="{INK}"'),
-        "</svg>",
     ]
-    return "\n".join(lines) + "\n"
+    return framed(HEAD, WIDTH, HEIGHT, elements)

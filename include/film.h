@@ -8,7 +8,8 @@
  *
  * Every function but film_version answers 0 when it is done, and else one of the refusals below. A refusal's other fields
  * are 0, and the output is as it was; 16 alone, an improper sheet, keeps its other field and writes its output. Nothing is
- * kept between calls, so any number of threads may call at once.
+ * kept between calls but what lies in the caller's own bytes, so any number of threads may call at once; two that work on
+ * one open tray take turns.
  *
  * A character is a byte from 0 to 63. A line is 63 characters: addresses 0 to 49 hold text, 50 and 51 the high and the
  * low six bits of the line number, 52 to 62 checks. The distance of two words is the count of addresses where they
@@ -26,7 +27,7 @@ extern "C" {
 /* ---- The version of this header. tools/tables writes its three numbers from version.txt. */
 
 #define FILM_VERSION_MAJOR 4
-#define FILM_VERSION_MINOR 5
+#define FILM_VERSION_MINOR 6
 #define FILM_VERSION_PATCH 0
 #define FILM_VERSION (1000000 * FILM_VERSION_MAJOR + 1000 * FILM_VERSION_MINOR + FILM_VERSION_PATCH)
 
@@ -55,7 +56,10 @@ enum {
     FILM_TEMPLATE = 14,         /* panel text: the kind is 1, a template */
     FILM_UNKNOWN_KIND = 15,     /* panel text: the kind is over 1 */
     FILM_IMPROPER_SHEET = 16,   /* sheet reading: what the rounds leave is no proper sheet; it is written all the same, and the rounds are told */
-    FILM_LAST_REFUSAL = 16      /* the highest of these numbers */
+    FILM_TRAY_UNFIT = 17,       /* an open tray claims over 64 lines or a count above them; adding, where 64 are held; replacing and dropping, last, where the line has a character or sum over 63, or a sum not 0 at count 0 */
+    FILM_LINE_NOT_HELD = 18,    /* replacing: the line asked for is not there; dropping: no line is left */
+    FILM_ADDRESS_OVER = 19,     /* an address over 62 */
+    FILM_LAST_REFUSAL = 19      /* the highest of these numbers */
 };
 
 /* ---- Lengths, in bytes. */
@@ -66,6 +70,7 @@ enum {
     FILM_STARTS = 126,    /* the output of listing a ring */
     FILM_SHEET = 3969,    /* a sheet, 63 lines, and the output of encoding and reading it */
     FILM_TEXTS = 2600,    /* the texts of a sheet's first 52 lines */
+    FILM_TRAY = 4738,     /* an open tray: sizeof(film_tray) */
     FILM_SPOOL = 16065,   /* the longest spool, 255 lines; the output of reading a spool is as long as the spool */
     FILM_PANEL = 294,     /* the least output of panel text, and the longest text for a panel */
     FILM_CHECKS = 11      /* a register's characters, and the checks */
@@ -192,6 +197,53 @@ film_sheet film_read_sheet(const uint8_t *sheet, size_t sheet_len, uint8_t *out,
  * bytes, gets the one proper sheet whose first 52 lines have those texts and numbers. numbers_len counts numbers, not
  * bytes. Refusals: 1, 5, 2, 4. 1 is given for the texts' length and for the numbers'. */
 uint8_t film_encode_sheet(const uint8_t *texts, size_t texts_len, const uint16_t *numbers, size_t numbers_len, uint8_t *out, size_t out_len);
+
+/* ---- A tray kept open: up to 64 lines that are edited on screen, each with its eleven power sums, marks off, beside it, and
+ * a count of those whose sums are not all 0. A line in a tray is any 63 characters: the count tells how many of them are no
+ * lines of the code, and no line is walked again for it. The tray is the caller's own, lent by pointer, and is these bytes
+ * and nothing else: it may be copied, kept in a file, or made by hand. {0} is an empty tray; so is any with held and count 0. */
+
+enum {
+    FILM_TRAY_LINES = 64, /* a count: the most lines that a tray holds */
+    FILM_SUMS = 11        /* a count: the power sums of a line, S_-5 first */
+};
+
+typedef struct film_tray_line {
+    uint8_t characters[FILM_CHARACTERS];
+    uint8_t sums[FILM_SUMS];
+} film_tray_line;
+
+typedef struct film_tray {
+    film_tray_line lines[FILM_TRAY_LINES]; /* from lines[held] on it is free room, whatever it holds */
+    uint8_t held;
+    uint8_t count;
+} film_tray;
+
+typedef struct film_count {
+    uint8_t answer;
+    uint8_t count;
+} film_count;
+
+/* Each of the four operations takes any tray whatever: where `held` is over 64, or `count` above `held`, it answers 17, first.
+ * A refused operation leaves every byte of the tray as it was. From an empty tray on, whatever is called, the lines are those
+ * that the accepted operations give, and the sums and the count are what working them out afresh would give. The tray is not
+ * NULL. */
+
+/* Adds 63 characters as the last line. They must not lie in the tray itself: copy such a line out first. Refusals: 17, 1, 2,
+ * and 17 where 64 lines are held. */
+uint8_t film_tray_add(film_tray *tray, const uint8_t *line, size_t line_len);
+
+/* Replaces one character of a line, lines counted from 0, and adds the share of the change to the sums of that line. Refusals:
+ * 17; 18 where there is no such line; 19 for an address over 62; 2; and 17 where the line has a character or sum over 63, or
+ * a sum that is not 0 while the count is 0, which only a tray made by hand has. */
+uint8_t film_tray_replace(film_tray *tray, uint8_t line, uint8_t address, uint8_t character);
+
+/* Drops the last line. The bytes of its room stay, and the next line added is written over them. Refusals: 17; 18 where no line
+ * is left; and 17 as for replacing. */
+uint8_t film_tray_drop(film_tray *tray);
+
+/* The count: how many lines of the tray are no lines of the code. Refusals: 17. */
+film_count film_tray_count(const film_tray *tray);
 
 /* ---- Two scans of one line. Each is read with the radius and no wanted number. The scan that is read with the smaller
  * distance is the better one, the first where they tie; where one is refused it is the other; where both are, it is

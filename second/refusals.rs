@@ -35,3 +35,9 @@ pub const TEMPLATE: u8 = 14;
 pub const UNKNOWN_KIND: u8 = 15;
 /// Sheet reading: what the rounds leave is no proper sheet; it is written all the same, and the rounds are told.
 pub const IMPROPER_SHEET: u8 = 16;
+/// An open tray claims over 64 lines or a count above them; adding, where 64 are held; replacing and dropping, last, where the line has a character or sum over 63, or a sum not 0 at count 0.
+pub const TRAY_UNFIT: u8 = 17;
+/// Replacing: the line asked for is not there; dropping: no line is left.
+pub const LINE_NOT_HELD: u8 = 18;
+/// An address over 62.
+pub const ADDRESS_OVER: u8 = 19;

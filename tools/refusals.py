@@ -101,6 +101,11 @@ def each(form, between=""):
     return text
 
 
+def in_turn(*texts):
+    """These texts, one after the other."""
+    return lambda refusals, version: "".join(text(refusals, version) for text in texts)
+
+
 def last(form):
     """The form filled in with the highest number."""
     return lambda refusals, version: form.format(refusals[-1].number)
@@ -133,6 +138,13 @@ PARTS = [
         r"unfolding refusalOf first-with refusals\n",
         None,
         each("numbered {name} = record {{ named = refl; least = omega arith; most = omega arith }}\n"),
+    ),
+    (
+        "crates/refusal/proofs/number/Proof.antt",
+        r"\(tie\.spec\n",
+        None,
+        # for each case two facts: that the refusal told is this case, and that its number is the one returned
+        in_turn(each("    (λ c. search needs)  -- {name}\n"), each("    (λ c. search (of-case, needs))  -- {name}\n"), lambda refusals, version: "    )\n"),
     ),
     ("include/film.h", r"    FILM_DONE = 0,\n", "};", header_enum),
     ("bindings/rust/src/refusal.rs", r"pub enum Refusal \{\n", "    /// A number", each("    /// {sentence}\n    {name},\n")),

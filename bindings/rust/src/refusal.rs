@@ -38,6 +38,12 @@ pub enum Refusal {
     UnknownKind,
     /// Sheet reading: what the rounds leave is no proper sheet; it is written all the same, and the rounds are told.
     ImproperSheet,
+    /// An open tray claims over 64 lines or a count above them; adding, where 64 are held; replacing and dropping, last, where the line has a character or sum over 63, or a sum not 0 at count 0.
+    TrayUnfit,
+    /// Replacing: the line asked for is not there; dropping: no line is left.
+    LineNotHeld,
+    /// An address over 62.
+    AddressOver,
     /// A number that this crate does not know: the library that is linked is a later one.
     Unknown(u8),
 }
@@ -61,6 +67,9 @@ impl Refusal {
         Refusal::Template,
         Refusal::UnknownKind,
         Refusal::ImproperSheet,
+        Refusal::TrayUnfit,
+        Refusal::LineNotHeld,
+        Refusal::AddressOver,
     ];
 
     /// The paper's number.
@@ -82,6 +91,9 @@ impl Refusal {
             Refusal::Template => 14,
             Refusal::UnknownKind => 15,
             Refusal::ImproperSheet => 16,
+            Refusal::TrayUnfit => 17,
+            Refusal::LineNotHeld => 18,
+            Refusal::AddressOver => 19,
             Refusal::Unknown(number) => number,
         }
     }
@@ -115,6 +127,9 @@ impl fmt::Display for Refusal {
             Refusal::Template => "panel text: the kind is 1, a template",
             Refusal::UnknownKind => "panel text: the kind is over 1",
             Refusal::ImproperSheet => "sheet reading: what the rounds leave is no proper sheet; it is written all the same, and the rounds are told",
+            Refusal::TrayUnfit => "an open tray claims over 64 lines or a count above them; adding, where 64 are held; replacing and dropping, last, where the line has a character or sum over 63, or a sum not 0 at count 0",
+            Refusal::LineNotHeld => "replacing: the line asked for is not there; dropping: no line is left",
+            Refusal::AddressOver => "an address over 62",
             Refusal::Unknown(_) => "a reason that this crate does not know",
         };
         write!(f, "refused ({}): {why}", self.number())

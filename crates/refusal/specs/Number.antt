@@ -1,7 +1,7 @@
 -- The number of each refusal, as the table of numbered answers gives it; 0 is a success. tools/tables writes the cases from refusals.txt.
 use Prim.Native.Nat.{ℕ}
 use Rattle.refusal.specs.declared.Refusal.{Refusal}
-use Rattle.refusal.specs.declared.Refusal.the-variants.{InputLength, ValueOver, RadiusOver, NumberOver, OutputLength, NoLine, OtherNumber, RowCount, NoBlock, ManyStarts, RegisterFull, RegisterShort, QuotientByZero, Template, UnknownKind, ImproperSheet}
+use Rattle.refusal.specs.declared.Refusal.the-variants.{InputLength, ValueOver, RadiusOver, NumberOver, OutputLength, NoLine, OtherNumber, RowCount, NoBlock, ManyStarts, RegisterFull, RegisterShort, QuotientByZero, Template, UnknownKind, ImproperSheet, TrayUnfit, LineNotHeld, AddressOver}
 
 abbrev pub numberOf : Refusal → ℕ
 -- a line, ring or map of blots is not 63 long, a text is not 50 long, a sheet is not 3,969 long, its texts are not 2,600 long or its numbers not 52, or a spool's length is no multiple of 63 or is over 16,065
@@ -36,3 +36,9 @@ numberOf Template = 14
 numberOf UnknownKind = 15
 -- sheet reading: what the rounds leave is no proper sheet; it is written all the same, and the rounds are told
 numberOf ImproperSheet = 16
+-- an open tray claims over 64 lines or a count above them; adding, where 64 are held; replacing and dropping, last, where the line has a character or sum over 63, or a sum not 0 at count 0
+numberOf TrayUnfit = 17
+-- replacing: the line asked for is not there; dropping: no line is left
+numberOf LineNotHeld = 18
+-- an address over 62
+numberOf AddressOver = 19

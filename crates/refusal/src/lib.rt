@@ -20,6 +20,9 @@ pub enum Refusal {
     Template,
     UnknownKind,
     ImproperSheet,
+    TrayUnfit,
+    LineNotHeld,
+    AddressOver,
 }
 
 // The number of a refusal.
@@ -43,5 +46,8 @@ pub fn number(r: Refusal) -> u8
         Refusal::Template => 14,
         Refusal::UnknownKind => 15,
         Refusal::ImproperSheet => 16,
+        Refusal::TrayUnfit => 17,
+        Refusal::LineNotHeld => 18,
+        Refusal::AddressOver => 19,
     }
 }

@@ -26,37 +26,62 @@ inner : (w : ℕ) (p q : List ℕ) (m : ℕ) → m + w ≤ length p → take w (
 inner w p q m h =
     ap (take w) (drop-append-le m p q (omega arith)) ∙ take-append-le w (drop m p) q (rw (length-drop m p) (omega arith))
 
-module _ (w : ℕ) (l new : List ℕ) (i n : ℕ) (h : i < n) (long : length l ≡ n * w) (size : length new ≡ w) where
+-- of a list that may go on after its parts
+module _ (w : ℕ) (l new : List ℕ) (i : ℕ) (inside : i * w + w ≤ length l) (size : length new ≡ w) where
   -- as a lent part comes back
-  abbrev pub replaced : List ℕ
-  replaced = take (i * w) l ++ (new ++ drop w (drop (i * w) l))
+  abbrev pub put-in : List ℕ
+  put-in = take (i * w) l ++ (new ++ drop w (drop (i * w) l))
 
   front : length (take (i * w) l) ≡ i * w
-  front = let r = part-room w n i h in length-take-le (i * w) l (omega arith)
+  front = length-take-le (i * w) l (omega arith)
 
-  pub replaced-long : length replaced ≡ n * w
-  replaced-long = let r = part-room w n i h in simp (length-append, length-take, length-drop) (omega arith)
+  pub put-long : length put-in ≡ length l
+  put-long = simp (length-append, length-take, length-drop) (omega arith)
 
-  pub part-same : part w i replaced ≡ new
-  part-same = ap (take w) (drop-at (take (i * w) l) (new ++ drop w (drop (i * w) l)) (i * w) front) ∙ take-at new (drop w (drop (i * w) l)) w size
+  pub put-same : part w i put-in ≡ new
+  put-same = ap (take w) (drop-at (take (i * w) l) (new ++ drop w (drop (i * w) l)) (i * w) front) ∙ take-at new (drop w (drop (i * w) l)) w size
 
-  pub part-before : (j : ℕ) → j < i → part w j replaced ≡ part w j l
-  part-before j k =
+  pub put-before : (j : ℕ) → j < i → part w j put-in ≡ part w j l
+  put-before j k =
       let r = part-room w i j k in
       inner w (take (i * w) l) (new ++ drop w (drop (i * w) l)) (j * w) (rw front (omega arith))
       ∙ sym (inner w (take (i * w) l) (drop (i * w) l) (j * w) (rw front (omega arith))) ∙ ap (part w j) (take-append-drop (i * w) l)
 
-  pub part-after : (j : ℕ) → i < j → part w j replaced ≡ part w j l
-  part-after j k =
-      let r = part-room w j i k in
-      let m : ℕ = j * w - (i * w + w) in
-      let e : j * w ≡ i * w + w + m = omega arith in
+  -- whatever lies behind the part
+  pub put-behind : (m : ℕ) → drop (i * w + w + m) put-in ≡ drop (i * w + w + m) l
+  put-behind m =
       let a : List ℕ = take (i * w) l ++ new in
       let q : List ℕ = drop w (drop (i * w) l) in
       let f : length a ≡ i * w + w = length-append (take (i * w) l) new ∙ ap₂ _+_ front size in
-      ap (λ (x : List ℕ). part w j x) (sym (append-assoc (take (i * w) l) new q))
-      ∙ ap (λ (x : ℕ). take w (drop x (a ++ q))) (e ∙ ap (λ (x : ℕ). x + m) (sym f)) ∙ ap (take w) (drop-append-add a q m)
-      ∙ ap (λ (x : List ℕ). take w (drop m x)) (drop-drop w (i * w) l) ∙ ap (take w) (drop-drop m (i * w + w) l) ∙ ap (λ (x : ℕ). take w (drop x l)) (sym e)
+      ap (λ (x : List ℕ). drop (i * w + w + m) x) (sym (append-assoc (take (i * w) l) new q))
+      ∙ ap (λ (x : ℕ). drop (x + m) (a ++ q)) (sym f) ∙ drop-append-add a q m
+      ∙ ap (λ (x : List ℕ). drop m x) (drop-drop w (i * w) l) ∙ drop-drop m (i * w + w) l
+
+  pub put-after : (j : ℕ) → i < j → part w j put-in ≡ part w j l
+  put-after j k =
+      let r = part-room w j i k in
+      let e : j * w ≡ i * w + w + (j * w - (i * w + w)) = omega arith in
+      ap (take w) (ap (λ (n : ℕ). drop n put-in) e ∙ put-behind (j * w - (i * w + w)) ∙ ap (λ (n : ℕ). drop n l) (sym e))
+
+-- and of a list that is n parts
+module _ (w : ℕ) (l new : List ℕ) (i n : ℕ) (h : i < n) (long : length l ≡ n * w) (size : length new ≡ w) where
+  inside : i * w + w ≤ length l
+  inside = let r = part-room w n i h in omega arith
+
+  abbrev pub replaced : List ℕ
+  replaced = take (i * w) l ++ (new ++ drop w (drop (i * w) l))
+
+  pub replaced-long : length replaced ≡ n * w
+  replaced-long = put-long w l new i inside size ∙ long
+
+  pub part-same : part w i replaced ≡ new
+  part-same = put-same w l new i inside size
+
+  pub part-before : (j : ℕ) → j < i → part w j replaced ≡ part w j l
+  part-before = put-before w l new i inside size
+
+  pub part-after : (j : ℕ) → i < j → part w j replaced ≡ part w j l
+  part-after = put-after w l new i inside size
 
 -- ---- the parts make the list
 

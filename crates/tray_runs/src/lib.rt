@@ -1,0 +1,1 @@
+// Runs of operations on a tray kept open: theory alone.

@@ -25,6 +25,8 @@ use Rattle.sheet_encoder.specs.Promises as SheetEncoder
 use Rattle.sheet_encoder.proofs.Theorems.{same-encoding, a-proper-sheet}
 use Rattle.sheet_reader.specs.Promises as SheetReader
 use Rattle.sheet_reader.proofs.Theorems.{same-reading, undamaged-read}
+use Rattle.open_tray.specs.Promises as OpenTray
+use Rattle.open_tray.proofs.Theorems as tray
 use Rattle.ring.specs.Ring.{placed}
 use Rattle.ring.specs.Promises as Ring
 use Rattle.ring.proofs.Those.{one-those}
@@ -45,7 +47,8 @@ use Rattle.film.specs.declared.recorder.FilmRegister.{FilmRegister}
 use Rattle.film.specs.declared.recorder.FilmStepped.{FilmStepped}
 use Rattle.film.specs.declared.recorder.FilmChecked.{FilmChecked}
 use Rattle.film.specs.declared.sheets.FilmSheet.{FilmSheet}
-use Rattle.film.specs.Numbers.{elementNumbers, choiceNumbers, listNumbers, ringNumbers, panelNumbers, blockNumbers, sheetNumbers, registerOf, checkNumbers}
+use Rattle.film.specs.declared.trays.FilmCount.{FilmCount}
+use Rattle.film.specs.Numbers.{elementNumbers, choiceNumbers, listNumbers, ringNumbers, panelNumbers, blockNumbers, sheetNumbers, countNumbers, registerOf, checkNumbers}
 
 -- ---- the field
 
@@ -168,6 +171,25 @@ pub encoded-read-back : (texts numbers old sheet : List ℕ) → SheetEncoder.En
 encoded-read-back texts numbers old sheet encoded other room r x reads =
     let e = undamaged-read sheet other (a-proper-sheet texts numbers old sheet encoded) room (sheetNumbers r) x reads in
     (one-sheet r (record { answer = 0; rounds = 1 }) (e .0), e .1)
+
+-- ---- open trays
+
+one-number : {a b : ℕ} {x y : List ℕ} → (a ∷ [] ≡ b ∷ []) × (x ≡ y) → (a ≡ b) × (x ≡ y)
+one-number e = (ap (λ (l : List ℕ). getD l 0 0) (e .0), e .1)
+
+pub one-tray-add : (t w : List ℕ) (a b : ℕ) (x y : List ℕ) → OpenTray.Adds t w (a ∷ []) x → OpenTray.Adds t w (b ∷ []) y → (a ≡ b) × (x ≡ y)
+one-tray-add t w a b x y p q = one-number (tray.one-adding t w (a ∷ []) (b ∷ []) x y p q)
+
+pub one-tray-replace : (t : List ℕ) (i k c a b : ℕ) (x y : List ℕ)
+    → OpenTray.Replaces t i k c (a ∷ []) x → OpenTray.Replaces t i k c (b ∷ []) y → (a ≡ b) × (x ≡ y)
+one-tray-replace t i k c a b x y p q = one-number (tray.one-replacing t i k c (a ∷ []) (b ∷ []) x y p q)
+
+pub one-tray-drop : (t : List ℕ) (a b : ℕ) (x y : List ℕ) → OpenTray.Drops t (a ∷ []) x → OpenTray.Drops t (b ∷ []) y → (a ≡ b) × (x ≡ y)
+one-tray-drop t a b x y p q = one-number (tray.one-dropping t (a ∷ []) (b ∷ []) x y p q)
+
+pub one-tray-count : (t : List ℕ) (r s : FilmCount) → OpenTray.Asks t (countNumbers r) → OpenTray.Asks t (countNumbers s) → r ≡ s
+one-tray-count t r s p q =
+    ap (λ (l : List ℕ). record { answer = getD l 0 0; count = getD l 1 0 }) (tray.one-asking t (countNumbers r) (countNumbers s) p q)
 
 -- ---- panel text
 

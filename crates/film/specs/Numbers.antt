@@ -11,6 +11,7 @@ use Rattle.film.specs.declared.FilmBlock.{FilmBlock}
 use Rattle.film.specs.declared.recorder.FilmRegister.{FilmRegister}
 use Rattle.film.specs.declared.recorder.FilmChecked.{FilmChecked}
 use Rattle.film.specs.declared.sheets.FilmSheet.{FilmSheet}
+use Rattle.film.specs.declared.trays.FilmCount.{FilmCount}
 
 abbrev pub elementNumbers : FilmElement → List ℕ
 elementNumbers r = r .answer ∷ r .value ∷ []
@@ -33,6 +34,9 @@ blockNumbers r = r .answer ∷ r .distance ∷ []
 
 abbrev pub sheetNumbers : FilmSheet → List ℕ
 sheetNumbers r = r .answer ∷ r .rounds ∷ []
+
+abbrev pub countNumbers : FilmCount → List ℕ
+countNumbers r = r .answer ∷ r .count ∷ []
 
 -- the same eleven characters and the same count
 abbrev pub registerOf : FilmRegister → Register

@@ -28,6 +28,25 @@ pub struct Sheet {
 }
 
 #[repr(C)]
+pub struct TrayLine {
+    pub characters: [u8; 63],
+    pub sums: [u8; 11],
+}
+
+#[repr(C)]
+pub struct Tray {
+    pub lines: [TrayLine; 64],
+    pub held: u8,
+    pub count: u8,
+}
+
+#[repr(C)]
+pub struct Count {
+    pub answer: u8,
+    pub count: u8,
+}
+
+#[repr(C)]
 pub struct Choice {
     pub answer: u8,
     pub scan: u8,
@@ -92,6 +111,10 @@ extern "C" {
     pub fn film_read_spool(lines: *const u8, lines_len: usize, radius: u8, out: *mut u8, out_len: usize) -> Spool;
     pub fn film_read_sheet(sheet: *const u8, sheet_len: usize, out: *mut u8, out_len: usize) -> Sheet;
     pub fn film_encode_sheet(texts: *const u8, texts_len: usize, numbers: *const u16, numbers_len: usize, out: *mut u8, out_len: usize) -> u8;
+    pub fn film_tray_add(tray: *mut Tray, line: *const u8, line_len: usize) -> u8;
+    pub fn film_tray_replace(tray: *mut Tray, line: u8, address: u8, character: u8) -> u8;
+    pub fn film_tray_drop(tray: *mut Tray) -> u8;
+    pub fn film_tray_count(tray: *const Tray) -> Count;
     pub fn film_read_blotted(word: *const u8, word_len: usize, map: *const u8, map_len: usize, out: *mut u8, out_len: usize) -> Line;
     pub fn film_better_scan(first: *const u8, first_len: usize, second: *const u8, second_len: usize, radius: u8) -> Choice;
     pub fn film_list_ring(ring: *const u8, ring_len: usize, radius: u8, out: *mut u8, out_len: usize) -> List;

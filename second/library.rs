@@ -4,8 +4,8 @@
 //! tools/compare-library builds and runs it: library ROUNDS [SEED]. Each output lies between two rows of bytes that must stay, and so does each
 //! input, which must stay too. All pairs of operands are tried, every length up to 300, a byte that is too high at every place, and the rows of the
 //! bench sheet; the rest is random, and the same in every run with that seed. second/library/ has the calls of lines, in the library's way and in the
-//! paper's, of registers, of spools, of sheets, with blots and for a panel, and what the change requests speak of. At the end each call must have given
-//! each answer that it can give.
+//! paper's, of registers, of spools, of sheets, of open trays, with blots and for a panel, and what the change requests speak of. At the end each call
+//! must have given each answer that it can give.
 
 // Of the second program only what answers is called here; what writes the stored files is not.
 #![allow(dead_code)]
@@ -27,6 +27,9 @@ mod interface;
 mod interpolation;
 mod lent;
 mod line;
+#[path = "library/open_trays.rs"]
+mod open_tray_calls;
+mod open_trays;
 mod panel;
 #[path = "library/panels.rs"]
 mod panels;
@@ -60,7 +63,7 @@ use std::fmt::Debug;
 use std::process::exit;
 
 /// The version that the library has to tell. tools/tables writes it from version.txt.
-const VERSION: u32 = 4005000;
+const VERSION: u32 = 4006000;
 
 const UNTOUCHED: u8 = 170;
 
@@ -346,6 +349,7 @@ fn main() {
     comparison.blots();
     comparison.paper();
     comparison.sheets();
+    comparison.open_trays();
     for i in 0..rounds {
         comparison.round(i % 8 == 0);
         if i % 8 == 0 {
@@ -363,6 +367,7 @@ fn main() {
         if i % 64 == 0 {
             comparison.by_the_character();
             comparison.any_sheet();
+            comparison.any_open_tray();
         }
     }
     exit(!answers::all_given(&comparison.given) as i32);

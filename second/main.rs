@@ -16,6 +16,7 @@ mod false_starts;
 mod field;
 mod interpolation;
 mod line;
+mod open_trays;
 mod panel;
 mod random;
 mod refusals;

@@ -8,8 +8,8 @@ use std::collections::BTreeMap;
 pub type Given = BTreeMap<(&'static str, usize), u64>;
 
 /// Each call, and every answer that it can give. A spool's line and an unblotted one, a word with no blot, are read alone, by film_read_line; reading a
-/// sheet is another call for each number of rounds.
-const ANSWERS: [(&str, &[u8]); 31] = [
+/// sheet is another call for each number of rounds, and what is asked of an open tray for each cause of 17 and each way that the count goes.
+const ANSWERS: [(&str, &[u8]); 50] = [
     ("sum", &[0, VALUE_OVER]),
     ("product", &[0, VALUE_OVER]),
     ("quotient", &[0, VALUE_OVER, QUOTIENT_BY_ZERO]),
@@ -30,6 +30,25 @@ const ANSWERS: [(&str, &[u8]); 31] = [
     (READ_SHEET[6], &[0, IMPROPER_SHEET]),
     (READ_SHEET[7], &[0, IMPROPER_SHEET]),
     (READ_SHEET[8], &[0, IMPROPER_SHEET]),
+    ("tray_add", &[0, INPUT_LENGTH, VALUE_OVER]),
+    ("tray_add, too much claimed", &[TRAY_UNFIT]),
+    ("tray_add, full", &[TRAY_UNFIT]),
+    ("tray_add, count up", &[0]),
+    ("tray_replace", &[0, VALUE_OVER, LINE_NOT_HELD, ADDRESS_OVER]),
+    ("tray_replace, too much claimed", &[TRAY_UNFIT]),
+    ("tray_replace, high character", &[TRAY_UNFIT]),
+    ("tray_replace, high sum", &[TRAY_UNFIT]),
+    ("tray_replace, sum at count 0", &[TRAY_UNFIT]),
+    ("tray_replace, count up", &[0]),
+    ("tray_replace, count down", &[0]),
+    ("tray_replace, count above held", &[0]),
+    ("tray_drop", &[0, LINE_NOT_HELD]),
+    ("tray_drop, too much claimed", &[TRAY_UNFIT]),
+    ("tray_drop, high character", &[TRAY_UNFIT]),
+    ("tray_drop, high sum", &[TRAY_UNFIT]),
+    ("tray_drop, sum at count 0", &[TRAY_UNFIT]),
+    ("tray_drop, count down", &[0]),
+    ("tray_count", &[0, TRAY_UNFIT]),
     ("read_blotted", &[0, INPUT_LENGTH, VALUE_OVER, OUTPUT_LENGTH, NO_LINE]),
     ("unblotted_line", &[0, INPUT_LENGTH, VALUE_OVER, OUTPUT_LENGTH, NO_LINE]),
     ("better_scan", &[0, INPUT_LENGTH, VALUE_OVER, RADIUS_OVER, NO_LINE]),

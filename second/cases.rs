@@ -12,6 +12,7 @@ mod even;
 mod false_starts;
 mod field;
 mod line;
+mod open_trays;
 mod panel;
 mod paper;
 mod ring;
@@ -48,13 +49,15 @@ const READ_LINE_PAPER: Call = Call(18, "read_line_paper");
 const READ_LINE_PAPER_WANTED: Call = Call(19, "read_line_paper_wanted");
 const READ_SHEET: Call = Call(20, "read_sheet");
 const ENCODE_SHEET: Call = Call(21, "encode_sheet");
+const OPEN_TRAY: Call = Call(22, "open_tray");
 
 /// What is handed over: the head's fields, and the input.
 struct Case<'a> {
     call: Call,
-    /// A radius, an operand or a character.
+    /// A radius, an operand, a character or a byte of a tray.
     small: u8,
-    /// The number of a line, a wanted one, a register's count, or a length: of the first of two scans, of a word before its map or of texts before numbers.
+    /// The number of a line, a wanted one, a register's count, or a length: of the first of two scans, of a word before its map, of texts before numbers or of
+    /// lines before steps.
     number: u16,
     /// The length of the output that is lent.
     room: usize,
@@ -122,6 +125,7 @@ pub fn stored() -> (Vec<u8>, String) {
         blots::add_all,
         paper::add_all,
         sheets::add_all,
+        open_trays::add_all,
     ];
     for add_all in sections {
         add_all(&mut cases);

@@ -1,8 +1,8 @@
 // Hands stored cases to the library's functions, and prints a line for each with all that was answered.
 //
 // Standard input is one case after another: a head of eight bytes, and then the input. The head is these bytes, a number's high byte first:
-// the call; a small number (a radius, a first operand or a character); a number of two bytes (of a line, wanted, a register's count, or the length of
-// the first of two scans, of a word before its map or of texts before numbers);
+// the call; a small number (a radius, a first operand, a character or a byte of a tray); a number of two bytes (of a line, wanted, a register's count, or
+// the length of the first of two scans, of a word before its map, of texts before numbers or of lines before steps);
 // the length of the output that is lent, in two bytes; the length of the input, in two bytes. No case is too long: there is room for every
 // length that two bytes can say. The output is lent with LENT in every byte, so that it shows where it is left alone.
 //
@@ -15,6 +15,10 @@
 // Read blotted: the input is the word and its map, one after the other.
 // Read sheet: the numbers are the answer and the rounds.
 // Encode sheet: the input is the texts, and after them the numbers, two bytes each; numbers past MOST_NUMBERS of sheets.rt are left out.
+// Open tray: a tray that is empty, with the small number in every byte of its rooms. The input is the lines that are added, and after them steps of four bytes:
+// 1 to add (where the line starts in the lines, in two bytes; its length), 2 to replace (the line, the address, the character), 3 to drop, 4 to ask the count,
+// 5 to write a byte by hand (the place in the tray, in two bytes; the byte), which prints nothing. The line is the name alone, and each operation has one of
+// its own after it: its name, the numbers of the answer, and each byte of the tray that it changed, in hexadecimal, after its place and a colon.
 // Step and checks: the input is the eleven characters held (0 for each that is not there), and the number's low byte is the count.
 // Any other call: `passed over`.
 // The run ends where the input ends, also within a case, or after MOST_CASES.
@@ -30,6 +34,7 @@ use libc::STDIN_FILENO;
 use libc::STDOUT_FILENO;
 
 mod lines;
+mod open_trays;
 mod sheets;
 
 const SUM: u8 = 1;
@@ -73,6 +78,8 @@ const READ_LINE_PAPER_WANTED: u8 = 19;
 const READ_SHEET: u8 = 20;
 
 const ENCODE_SHEET: u8 = 21;
+
+const OPEN_TRAY: u8 = 22;
 
 // The length of a head.
 const HEAD: usize = 8;
@@ -309,6 +316,7 @@ fn hand_over(call: u8, small: u8, number: u16, input: &[u8], output: &mut [u8]) 
         READ_LINE_PAPER_WANTED => lines::read_line_paper_wanted(input, small, number, output),
         READ_SHEET => sheets::read_sheet(input, output),
         ENCODE_SHEET => sheets::encode_from(input, wide(number), output),
+        OPEN_TRAY => open_trays::open_tray(input, wide(number), small),
         _ => pass_over(),
     }
 }

@@ -1,6 +1,7 @@
-/* Tests of include/film.h, but for spools, sheets, blots and the method of 1968: what each function gives, every refusal by its
- * number, and outputs that stay as they were, to either side too. It compiles as C and as C++. */
+/* Tests of include/film.h, but for spools, sheets, open trays, blots and the method of 1968: what each function gives, every
+ * refusal by its number, and outputs that stay as they were, to either side too. It compiles as C and as C++. */
 #include "expect.h"
+#include "field.h"
 #include "film.h"
 #include <string.h>
 
@@ -36,14 +37,6 @@ static const size_t wrong[] = {0, 1, 50, 62, 64, 125, 127, ROOM};
 static const int wrongs = sizeof wrong / sizeof wrong[0];
 
 static uint8_t zeros[ROOM], z[FILM_CHARACTERS];
-
-/* The product of polynomials over bits, reduced by x^6 + x + 1. */
-static unsigned of_polynomials(unsigned u, unsigned v) {
-    unsigned product = 0;
-    for (; v != 0; v /= 2, u = u < 32 ? 2 * u : (2 * u) ^ 67)
-        product ^= v % 2 * u;
-    return product;
-}
 
 static void field(void) {
     EXPECT(film_sum(5, 3).answer == 0 && film_sum(5, 3).value == 6);

@@ -1,4 +1,5 @@
-"""The proved film reader: lines, with blots too, spools, sheets, rings, text for a panel and parity blocks, and the field and the register below them.
+"""The proved film reader: lines, with blots too, spools, sheets, open trays, rings, text for a panel and parity blocks, and the field and the register below
+them.
 
 Every function takes whatever bytes and numbers it is handed. It gives back what it found, or raises Refused, which says by number why not.
 A character is a byte from 0 to 63, and a line is 63 of them.
@@ -9,17 +10,19 @@ A character is a byte from 0 to 63, and a line is 63 of them.
     >>> read_ring(line[4:] + line[:4], 1).start
     59
 
-Where an output `out` is handed in (a bytearray), it is written in place of a new one; in a refusal it is as it was, but for an ImproperSheet. The
-shared library is the one that FILM_LIBRARY names, or target/film/libfilm.so of this checkout, which tools/build-library makes; one of another major
+Where an output `out` is handed in (a bytearray), it is written in place of a new one; in a refusal it is as it was, but for an ImproperSheet. So is an
+OpenTray. The shared library is the one that FILM_LIBRARY names, or target/film/libfilm.so of this checkout, which tools/build-library makes; one of another major
 version is an ImportError.
 """
 
 from typing import NamedTuple, Optional
 
 import film_library
+import film_tray
+from film_library import as_bytes as _bytes, bounded as _bounded, byte as _byte
 
 # tools/tables writes this from version.txt, and the refusals below from refusals.txt.
-__version__ = "4.5.0"
+__version__ = "4.6.0"
 
 # In the place of an address: nothing was changed.
 NOWHERE = 63
@@ -33,6 +36,11 @@ SHEET = 3969
 TEXTS = 2600
 NUMBERS = 52
 ROUNDS = 8
+
+# The bytes of an open tray, the most lines that it holds, and the power sums of each.
+TRAY = film_tray.BYTES
+TRAY_LINES = film_library.TRAY_LINES
+SUMS = film_library.SUMS
 
 # The least output of panel text, and the longest text for a panel.
 PANEL = 294
@@ -55,6 +63,9 @@ REFUSALS = {
     14: "panel text: the kind is 1, a template",
     15: "panel text: the kind is over 1",
     16: "sheet reading: what the rounds leave is no proper sheet; it is written all the same, and the rounds are told",
+    17: "an open tray claims over 64 lines or a count above them; adding, where 64 are held; replacing and dropping, last, where the line has a character or sum over 63, or a sum not 0 at count 0",
+    18: "replacing: the line asked for is not there; dropping: no line is left",
+    19: "an address over 62",
 }
 
 
@@ -116,24 +127,6 @@ class BlockRead(NamedTuple):
 _library = film_library.load(film_library.shared_library(), int(__version__.split(".")[0]))
 
 
-def _bounded(number, most):
-    """A number as the library takes it. One that is too large for its type is handed on as the largest, which is refused for the same reason."""
-    if number < 0:
-        raise ValueError("a negative number")
-    return min(number, most)
-
-
-def _byte(number):
-    return _bounded(number, 255)
-
-
-def _bytes(given):
-    """Bytes, or what bytes() makes of a list of numbers."""
-    if isinstance(given, int):
-        raise TypeError("bytes are needed, not a number")
-    return bytes(given)
-
-
 def _answered(function, given, *others, room, out):
     """Calls a function with an input, what it takes besides and an output: gives what it answers, a refusal too, and the output as it is then."""
     given = _bytes(given)
@@ -144,19 +137,18 @@ def _answered(function, given, *others, room, out):
     return result, bytes(out)
 
 
-def _call(function, given, *others, room, out):
-    """The same, but that a refusal is raised."""
-    result, written = _answered(function, given, *others, room=room, out=out)
+def _done(result):
+    """What was answered, an answer alone or a struct that has one; a refusal is raised."""
     answer = result if isinstance(result, int) else result.answer
     if answer:
         raise Refused(answer)
-    return result, written
+    return result
 
 
-def _value(result):
-    if result.answer:
-        raise Refused(result.answer)
-    return result.value
+def _call(function, given, *others, room, out):
+    """As _answered, but that a refusal is raised."""
+    result, written = _answered(function, given, *others, room=room, out=out)
+    return _done(result), written
 
 
 def _line_read(result, line):
@@ -170,17 +162,17 @@ def version() -> int:
 
 def sum(u, v):
     """The sum of two elements of the field."""
-    return _value(_library.film_sum(_byte(u), _byte(v)))
+    return _done(_library.film_sum(_byte(u), _byte(v))).value
 
 
 def product(u, v):
     """The product of two elements of the field."""
-    return _value(_library.film_product(_byte(u), _byte(v)))
+    return _done(_library.film_product(_byte(u), _byte(v))).value
 
 
 def quotient(u, v):
     """The quotient of two elements of the field; a quotient by 0 is refused with 13."""
-    return _value(_library.film_quotient(_byte(u), _byte(v)))
+    return _done(_library.film_quotient(_byte(u), _byte(v))).value
 
 
 def encode_line(text, number, out: Optional[bytearray] = None) -> bytes:
@@ -274,9 +266,48 @@ def read_sheet(sheet, out: Optional[bytearray] = None) -> SheetRead:
     result, left = _answered(_library.film_read_sheet, sheet, room=SHEET, out=out)
     if result.answer == ImproperSheet.NUMBER:
         raise ImproperSheet(left, result.rounds)
-    if result.answer:
-        raise Refused(result.answer)
-    return SheetRead(left, result.rounds)
+    return SheetRead(left, _done(result).rounds)
+
+
+class OpenTray(film_tray.Tray):
+    """A tray kept open: up to TRAY_LINES lines that are edited, each with its eleven power sums, marks off, beside it, and a count of those whose sums are not
+    all 0. A line in a tray is any 63 characters; the count tells how many of them are no lines of the code, and no line is walked again for it. Every operation
+    takes any tray whatever, one that from_bytes makes by hand too.
+
+    >>> line = encode_line(bytes(50), 65)
+    >>> tray = OpenTray([line, line])
+    >>> tray.replace(1, 20, 8)
+    >>> tray.count(), tray
+    (1, <OpenTray: 2 lines, count 1>)
+    >>> tray.replace(1, 20, 0)
+    >>> tray.lines[1] == line, tray.sums(1) == bytes(SUMS), tray.count()
+    (True, True, 0)
+    >>> tray.drop_last()
+    >>> len(tray)
+    1
+    """
+
+    def __init__(self, lines=()):
+        super().__init__()
+        for line in lines:
+            self.add(line)
+
+    def add(self, line):
+        """Adds 63 characters as the last line."""
+        line = _bytes(line)
+        _done(_library.film_tray_add(self._lent, line, len(line)))
+
+    def replace(self, line, address, character):
+        """Replaces one character of a line, lines counted from 0, and adds the share of the change to the sums of that line."""
+        _done(_library.film_tray_replace(self._lent, _byte(line), _byte(address), _byte(character)))
+
+    def drop_last(self):
+        """Drops the last line. The bytes of its room stay, and the next line added is written over them."""
+        _done(_library.film_tray_drop(self._lent))
+
+    def count(self) -> int:
+        """How many lines of the tray are no lines of the code."""
+        return _done(_library.film_tray_count(self._lent)).count
 
 
 def better_scan(first, second, radius):
@@ -289,9 +320,7 @@ def better_scan(first, second, radius):
     True
     """
     one, other = _bytes(first), _bytes(second)
-    result = _library.film_better_scan(one, len(one), other, len(other), _byte(radius))
-    if result.answer:
-        raise Refused(result.answer)
+    result = _done(_library.film_better_scan(one, len(one), other, len(other), _byte(radius)))
     return first if result.scan == 1 else second
 
 
@@ -355,14 +384,9 @@ class Register:
 
     def step(self, character):
         """Takes one more character; a refused step leaves the register as it was."""
-        result = _library.film_step(self._lent(), _byte(character))
-        if result.answer:
-            raise Refused(result.answer)
+        result = _done(_library.film_step(self._lent(), _byte(character)))
         self.held, self.count = bytes(result.after.held), result.after.count
 
     def checks(self) -> bytes:
         """The checks, of a register that has taken 52 characters."""
-        result = _library.film_checks(self._lent())
-        if result.answer:
-            raise Refused(result.answer)
-        return bytes(result.checks)
+        return bytes(_done(_library.film_checks(self._lent())).checks)

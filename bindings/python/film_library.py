@@ -1,4 +1,5 @@
-"""The library's structs and functions as include/film.h declares them, and the loading of a library: film.py, which programs import, calls what is loaded."""
+"""The library's structs and functions as include/film.h declares them, numbers and bytes as it takes them, and the loading of a library: film.py, which
+programs import, calls what is loaded."""
 
 import ctypes
 import os
@@ -10,6 +11,11 @@ _u32 = ctypes.c_uint32
 
 # The most lines of a spool.
 PLACES = 255
+
+# How many characters and how many power sums a line of an open tray has, and the most lines that a tray holds.
+CHARACTERS = 63
+SUMS = 11
+TRAY_LINES = 64
 
 
 class Element(ctypes.Structure):
@@ -26,6 +32,18 @@ class Spool(ctypes.Structure):
 
 class Sheet(ctypes.Structure):
     _fields_ = [("answer", u8), ("rounds", u8)]
+
+
+class TrayLine(ctypes.Structure):
+    _fields_ = [("characters", u8 * CHARACTERS), ("sums", u8 * SUMS)]
+
+
+class Tray(ctypes.Structure):
+    _fields_ = [("lines", TrayLine * TRAY_LINES), ("held", u8), ("count", u8)]
+
+
+class Count(ctypes.Structure):
+    _fields_ = [("answer", u8), ("count", u8)]
 
 
 class Choice(ctypes.Structure):
@@ -60,6 +78,24 @@ class Checked(ctypes.Structure):
     _fields_ = [("checks", u8 * 11), ("answer", u8)]
 
 
+def bounded(number, most):
+    """A number as the library takes it. One that is too large for its type is handed on as the largest, which is refused for the same reason."""
+    if number < 0:
+        raise ValueError("a negative number")
+    return min(number, most)
+
+
+def byte(number):
+    return bounded(number, 255)
+
+
+def as_bytes(given):
+    """Bytes, or what bytes() makes of a list of numbers."""
+    if isinstance(given, int):
+        raise TypeError("bytes are needed, not a number")
+    return bytes(given)
+
+
 def _check_version(library, path, own):
     """A library of another major version is not taken: its structs may be laid out otherwise."""
     if not hasattr(library, "film_version"):
@@ -83,6 +119,7 @@ def load(path, own):
     given = [ctypes.c_char_p, ctypes.c_size_t]
     numbers = [ctypes.POINTER(u16), ctypes.c_size_t]
     output = [ctypes.POINTER(u8), ctypes.c_size_t]
+    tray = [ctypes.POINTER(Tray)]
     for name, takes, gives in [
         ("sum", [u8, u8], Element),
         ("product", [u8, u8], Element),
@@ -98,6 +135,10 @@ def load(path, own):
         ("read_spool", given + [u8] + output, Spool),
         ("read_sheet", given + output, Sheet),
         ("encode_sheet", given + numbers + output, u8),
+        ("tray_add", tray + given, u8),
+        ("tray_replace", tray + [u8, u8, u8], u8),
+        ("tray_drop", tray, u8),
+        ("tray_count", tray, Count),
         ("better_scan", given + given + [u8], Choice),
         ("list_ring", given + [u8] + output, List),
         ("read_ring", given + [u8] + output, Ring),

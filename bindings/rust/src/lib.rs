@@ -1,8 +1,9 @@
-//! The proved film reader: lines, with blots too, spools, sheets, rings, text for a panel and parity blocks, and the field and the register below them.
+//! The proved film reader: lines, with blots too, spools, sheets, open trays, rings, text for a panel and parity blocks, and the field and the register below
+//! them.
 //!
 //! Every function takes whatever slices and numbers it is handed. It answers what it found, or the [`Refusal`] that says by number why not;
-//! then the output is as it was, but for a sheet that is not proper after reading ([`SheetRefusal::Improper`]). A character is a byte from 0 to 63, and a line
-//! is 63 of them.
+//! then the output, or the tray, is as it was, but for a sheet that is not proper after reading ([`SheetRefusal::Improper`]). A character is a byte from 0 to
+//! 63, and a line is 63 of them.
 //!
 //! ```
 //! let mut line = [0; 63];
@@ -21,17 +22,22 @@
 #![deny(missing_docs)]
 
 mod library;
+mod open_tray;
 mod refusal;
 mod sheet;
 mod spool;
 
+pub use open_tray::{OpenTray, SUMS, TRAY, TRAY_LINES};
 pub use refusal::Refusal;
 pub use sheet::{encode_sheet, read_sheet, SheetRefusal, NUMBERS, ROUNDS, SHEET, TEXTS};
 pub use spool::{read_spool, SpoolRead, PLACES, SPOOL};
 
+/// How many characters a line has.
+const LINE: usize = 63;
+
 /// The version that this crate was made for: a million times the major number, a thousand times the minor, and the patch. It is the crate's own;
 /// tools/tables writes it from version.txt.
-pub const VERSION: u32 = 4005000;
+pub const VERSION: u32 = 4006000;
 
 /// The version of the library that is linked, written as [`VERSION`] is.
 pub fn version() -> u32 {

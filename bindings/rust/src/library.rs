@@ -1,6 +1,6 @@
 //! The library's functions as include/film.h declares them, each with a function that calls it with slices.
 
-use crate::{Register, PLACES};
+use crate::{OpenTray, Register, PLACES};
 
 #[repr(C)]
 pub struct Element {
@@ -27,6 +27,12 @@ pub struct Spool {
 pub struct Sheet {
     pub answer: u8,
     pub rounds: u8,
+}
+
+#[repr(C)]
+pub struct Count {
+    pub answer: u8,
+    pub count: u8,
 }
 
 #[repr(C)]
@@ -90,6 +96,10 @@ extern "C" {
     fn film_read_spool(lines: *const u8, lines_len: usize, radius: u8, out: *mut u8, out_len: usize) -> Spool;
     fn film_read_sheet(sheet: *const u8, sheet_len: usize, out: *mut u8, out_len: usize) -> Sheet;
     fn film_encode_sheet(texts: *const u8, texts_len: usize, numbers: *const u16, numbers_len: usize, out: *mut u8, out_len: usize) -> u8;
+    fn film_tray_add(tray: *mut OpenTray, line: *const u8, line_len: usize) -> u8;
+    fn film_tray_replace(tray: *mut OpenTray, line: u8, address: u8, character: u8) -> u8;
+    fn film_tray_drop(tray: *mut OpenTray) -> u8;
+    fn film_tray_count(tray: *const OpenTray) -> Count;
     fn film_better_scan(first: *const u8, first_len: usize, second: *const u8, second_len: usize, radius: u8) -> Choice;
     fn film_list_ring(ring: *const u8, ring_len: usize, radius: u8, out: *mut u8, out_len: usize) -> List;
     fn film_read_ring(ring: *const u8, ring_len: usize, radius: u8, out: *mut u8, out_len: usize) -> Ring;
@@ -101,8 +111,8 @@ extern "C" {
     fn film_checks(taken: Register) -> Checked;
 }
 
-// Each call is safe: the library takes every value of its numbers, and a slice is good for its length; an output that is lent
-// to be written overlaps no other slice.
+// Each call is safe: the library takes every value of its numbers and of a tray's bytes, which are as many as it takes, and a
+// slice is good for its length; an output or a tray that is lent to be written overlaps no other slice.
 
 pub fn version() -> u32 {
     unsafe { film_version() }
@@ -154,6 +164,22 @@ pub fn read_sheet(sheet: &[u8], out: &mut [u8]) -> Sheet {
 
 pub fn encode_sheet(texts: &[u8], numbers: &[u16], out: &mut [u8]) -> u8 {
     unsafe { film_encode_sheet(texts.as_ptr(), texts.len(), numbers.as_ptr(), numbers.len(), out.as_mut_ptr(), out.len()) }
+}
+
+pub fn tray_add(tray: &mut OpenTray, line: &[u8]) -> u8 {
+    unsafe { film_tray_add(tray, line.as_ptr(), line.len()) }
+}
+
+pub fn tray_replace(tray: &mut OpenTray, line: u8, address: u8, character: u8) -> u8 {
+    unsafe { film_tray_replace(tray, line, address, character) }
+}
+
+pub fn tray_drop(tray: &mut OpenTray) -> u8 {
+    unsafe { film_tray_drop(tray) }
+}
+
+pub fn tray_count(tray: &OpenTray) -> Count {
+    unsafe { film_tray_count(tray) }
 }
 
 pub fn better_scan(first: &[u8], second: &[u8], radius: u8) -> Choice {

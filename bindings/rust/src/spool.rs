@@ -1,10 +1,7 @@
 //! Reading a spool: many lines in one call, and the list of what was read.
 
-use crate::{answered, library, line_read, LineRead, Refusal};
+use crate::{answered, library, line_read, LineRead, Refusal, LINE};
 use core::{array, fmt, iter, ops, slice};
-
-/// How many characters a line has.
-const LINE: usize = 63;
 
 /// The most lines of a spool.
 pub const PLACES: usize = 255;

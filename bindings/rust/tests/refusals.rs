@@ -1,6 +1,9 @@
-//! Tests of the crate, but for spools, sheets, blots and the method of 1968: what each function gives, every refusal by its number, and outputs that stay as they
-//! were.
+//! Tests of the crate, but for spools, sheets, open trays, blots and the method of 1968: what each function gives, every refusal by its number, and outputs that
+//! stay as they were.
 
+mod field;
+
+use field::of_polynomials;
 use film::{Refusal, Register};
 
 /// The line of zero text and number 0.
@@ -35,12 +38,6 @@ fn the_field() {
         assert_eq!(call(64, 0), Err(Refusal::ValueOver));
         assert_eq!(call(0, 255), Err(Refusal::ValueOver));
     }
-}
-
-/// The product of polynomials over bits, reduced by x^6 + x + 1.
-fn of_polynomials(u: u8, v: u8) -> u8 {
-    let reduced = |p: u8| if p < 64 { p } else { p ^ 0b1000011 };
-    (0..6).rev().fold(0, |product, k| reduced(2 * product) ^ (v >> k & 1) * u)
 }
 
 #[test]

@@ -28,6 +28,11 @@ UNTRACED static void mixed_characters(uint8_t *bytes, size_t length) {
         bytes[i] = (uint8_t)below(64);
 }
 
+UNTRACED static void mixed_bytes(uint8_t *bytes, size_t length) {
+    for (size_t i = 0; i < length; i++)
+        bytes[i] = (uint8_t)below(256);
+}
+
 static void mixed_clean_word(uint8_t *word) {
     mixed_characters(word, 52);
     complete(word);

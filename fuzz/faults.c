@@ -1,8 +1,9 @@
 /* Faults that the fuzz target has to find: each stands between the target and the library. `fuzz/run faults` builds one after the other.
- * sheet_faults.h has those of sheets.
+ * sheet_faults.h has those of sheets, and open_tray_faults.h those of open trays.
  *
  * It is built without sanitizers, as the library is. */
 #include "film.h"
+#include "open_tray_faults.h"
 #include "sheet_faults.h"
 #include <string.h>
 

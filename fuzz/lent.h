@@ -11,7 +11,7 @@
 #include <sys/mman.h>
 #include <unistd.h>
 
-enum { PAGE = 4096, SPOOL_PAGES = 4, MOST_BYTES = SPOOL_PAGES * PAGE, UNTOUCHED = 170 };
+enum { PAGE = 4096, SPOOL_PAGES = 4, TRAY_PAGES = 2, MOST_BYTES = SPOOL_PAGES * PAGE, UNTOUCHED = 170 };
 
 typedef struct {
     uint8_t *pages; /* as the target writes them */
@@ -20,7 +20,7 @@ typedef struct {
     size_t from, length;
 } slice;
 
-static slice input, second_input, output, spool_input, spool_output, spool_answer;
+static slice input, second_input, output, spool_input, spool_output, spool_answer, open_tray, asked_tray;
 
 static void *or_die(void *mapped) {
     if (mapped == MAP_FAILED) {

@@ -36,16 +36,26 @@ static void change_marks(uint8_t *word) {
         word[a] ^= mark(a);
 }
 
+/* There are eleven power sums, S_-5 to S_5. */
+enum { LOWEST_SUM = -5, HIGHEST_SUM = 5 };
+
+/* What a character at an address adds to S_j. */
+UNTRACED static uint8_t share(uint8_t c, int a, int j) { return product(c, power[(j + 63) * (62 - a) % 63]); }
+
+/* S_j of a word, its marks off. */
+UNTRACED static uint8_t power_sum(const uint8_t *word, int j) {
+    uint8_t sum = 0;
+    for (int a = 0; a < 63; a++)
+        sum ^= share(word[a] ^ mark(a), a, j);
+    return sum;
+}
+
 /* All eleven power sums are 0 once the marks are off. */
 UNTRACED static int is_line(const uint8_t *word) {
-    for (int j = -5; j <= 5; j++) {
-        uint8_t sum = 0;
-        for (int a = 0; a < 63; a++)
-            sum ^= product(word[a] ^ mark(a), power[(j + 63) * (62 - a) % 63]);
-        if (sum != 0)
-            return 0;
-    }
-    return 1;
+    int j = LOWEST_SUM;
+    while (j <= HIGHEST_SUM && power_sum(word, j) == 0)
+        j++;
+    return j > HIGHEST_SUM;
 }
 
 static int number_of(const uint8_t *line) { return line[50] * 64 + line[51]; }

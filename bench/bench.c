@@ -1,8 +1,9 @@
 /* The benchmark: the library, libfec and the second program on the same words, interleaved, the minimum of many rounds.
  *
  * bench/run builds and runs it. A time is that of the whole call, from the caller's characters to the caller's line, number, distance
- * and changed addresses, or text; of a spool, that of one of its lines. bench/ours.c has the library, bench/peers.c libfec, and plain C for
- * what libfec has nothing of. Before anything is timed, all peers must give the same answers on all words. */
+ * and changed addresses, or text; of a spool, that of one of its lines; of an open tray, that of one step. bench/ours.c has the library,
+ * bench/peers.c libfec, and plain C for what libfec has nothing of. Before anything is timed, all peers must give the same answers on all
+ * words. */
 #include "bench.h"
 #include "film.h"
 #include <stdio.h>
@@ -10,11 +11,11 @@
 #include <string.h>
 #include <time.h>
 
-enum { LINES = 128, RINGS = 4, SPOOLS = 8, SHEETS = 4, OURS = 0, FEC = 1, SECOND = 2, PEERS = 3, SELDOM = 20 };
+enum { LINES = 128, RINGS = 4, SPOOLS = 8, SHEETS = 4, TRAYS = 4, OURS = 0, FEC = 1, SECOND = 2, PEERS = 3, SELDOM = 20 };
 
 static const char *const peer_names[PEERS] = {"film", "libfec", "second"};
 
-typedef enum { ENCODE, READ, SCANS, RING, NOISE, BLOCK, FIELD, PANEL, PANEL_RING, SPOOL, BLOTS, CLEAN_BLOTS, NOISE_LINE, SHEET } kind;
+typedef enum { ENCODE, READ, SCANS, RING, NOISE, BLOCK, FIELD, PANEL, PANEL_RING, SPOOL, BLOTS, CLEAN_BLOTS, NOISE_LINE, SHEET, TRAY } kind;
 
 /* Lines with one error in a spool of the mix. Table 1 of source document 001 has 849,085 single errors in 108,366,272 lines: 1.998 in 255. More errors than
  * one have 9,116 of its lines, 0.021 in 255 and 0.17 in the row's eight spools: nearest to that is none. */
@@ -22,6 +23,9 @@ enum { MIXED = 2 };
 
 /* The most lines of a sheet that may be damaged in any way. */
 enum { DEAD = 5 };
+
+/* The lines of an open tray that have a wrong character. */
+enum { UNMENDED = 2 };
 
 typedef struct {
     const char *name;
@@ -72,6 +76,12 @@ static row rows[] = {
     {"paper_4", READ, 4, 0, 5, {ours_read, ours_paper, second_read}, NULL, {0}},
     {"paper_5", READ, 5, 0, 5, {ours_read, ours_paper, second_read}, NULL, {0}},
     {"paper_noise_refused", NOISE_LINE, 0, 0, 5, {ours_read, ours_paper, second_read}, NULL, {0}},
+    /* in the place of libfec stands plain C that walks all 64 lines, then reading them all, then reading the changed one alone, and then plain C again */
+    {"tray_replace", TRAY, UNMENDED, 0, 0, {ours_tray_replace, plain_tray_walking, second_tray_replace}, NULL, {0}},
+    {"tray_replace_read_64", TRAY, UNMENDED, 0, 0, {ours_tray_replace, ours_tray_reading, second_tray_replace}, NULL, {0}},
+    {"tray_replace_read_1", TRAY, UNMENDED, 0, 0, {ours_tray_replace, ours_tray_reading_one, second_tray_replace}, NULL, {0}},
+    {"tray_drop_add", TRAY, UNMENDED, 0, 0, {ours_tray_drop_add, plain_tray_drop_add, second_tray_drop_add}, NULL, {0}},
+    {"tray_count", TRAY, UNMENDED, 0, 0, {ours_tray_count, plain_tray_count, second_tray_count}, NULL, {0}},
 };
 
 enum { ROWS = sizeof rows / sizeof rows[0] };
@@ -118,6 +128,25 @@ static void change(uint8_t *word, int wrong, uint8_t *changed) {
 static void damage(uint8_t *word, int wrong) {
     uint8_t changed[63] = {0};
     change(word, wrong, changed);
+}
+
+/* Any lines, so many of them with one wrong character, and edits at any places. */
+static void make_tray(edited_tray *edited, int wrong) {
+    reply r;
+    uint8_t text[FILM_CHARACTERS];
+    int is_wrong[FILM_TRAY_LINES] = {0};
+    choose(is_wrong, FILM_TRAY_LINES, wrong);
+    for (int i = 0; i < FILM_TRAY_LINES; i++) {
+        characters(text);
+        fec_encode(text, 0, &r);
+        damage(r.out, is_wrong[i]);
+        film_tray_add(&edited->tray, r.out, FILM_CHARACTERS);
+    }
+    for (edit *e = edited->edits; e < edited->edits + EDITS; e++) {
+        e->line = (uint8_t)below(FILM_TRAY_LINES);
+        e->address = (uint8_t)below(FILM_CHARACTERS);
+        e->character = (uint8_t)below(64);
+    }
 }
 
 static void make_word(const row *w, uint8_t *word) {
@@ -197,6 +226,9 @@ static void make_word(const row *w, uint8_t *word) {
                 characters(word + 63 * i);
         return;
     }
+    case TRAY:
+        make_tray((edited_tray *)word, w->wrong);
+        return;
     case BLOTS:
     case CLEAN_BLOTS: { /* so many characters are wrong outside the blots; at the blots all are, or none in a clean word, of which a copy is changed */
         uint8_t *map = word + 63, changed[63];
@@ -210,18 +242,32 @@ static void make_word(const row *w, uint8_t *word) {
     }
 }
 
-/* Two scans are two words, one after the other, a word with blots has its map after it, a spool is 255 words, and a sheet 63. */
+/* Two scans are two words, one after the other, a word with blots has its map after it, a spool is 255 words, a sheet 63, and an edited tray as many as it
+ * needs. */
 static int stride(const row *w) {
-    return w->of == SCANS || w->of == BLOTS || w->of == CLEAN_BLOTS ? 2 : w->of == SPOOL ? FILM_PLACES : w->of == SHEET ? FILM_CHARACTERS : 1;
+    switch (w->of) {
+    case SCANS:
+    case BLOTS:
+    case CLEAN_BLOTS:
+        return 2;
+    case SPOOL:
+        return FILM_PLACES;
+    case SHEET:
+        return FILM_CHARACTERS;
+    case TRAY:
+        return (int)(sizeof(edited_tray) + FILM_CHARACTERS - 1) / FILM_CHARACTERS;
+    default:
+        return 1;
+    }
 }
 
 static int words_of(const row *w) {
     int is_ring = w->of == RING || w->of == NOISE || w->of == PANEL_RING;
-    return is_ring ? RINGS : w->of == SPOOL ? SPOOLS : w->of == SHEET ? SHEETS : LINES / stride(w);
+    return is_ring ? RINGS : w->of == SPOOL ? SPOOLS : w->of == SHEET ? SHEETS : w->of == TRAY ? TRAYS : LINES / stride(w);
 }
 
-/* What the cost is given for: a call, but of a spool a line. */
-static int parts_of(const row *w) { return words_of(w) * (w->of == SPOOL ? FILM_PLACES : 1); }
+/* What the cost is given for: a call, but of a spool a line, and of an edited tray a step. */
+static int parts_of(const row *w) { return words_of(w) * (w->of == SPOOL ? FILM_PLACES : w->of == TRAY ? 2 * EDITS : 1); }
 
 static int same_places(const reply *r, const reply *due) {
     for (const film_line *p = r->places, *q = due->places; p < r->places + FILM_PLACES; p++, q++)
@@ -277,7 +323,7 @@ static void print_times(int rounds) {
                 if (round == 0 || t < w->least[p])
                     w->least[p] = t;
             }
-    printf("nanoseconds a call, of a spool a line, minimum of %d rounds (second: of %d)\n", rounds, (rounds + SELDOM - 1) / SELDOM);
+    printf("nanoseconds a call, of a spool a line, of a tray a step, minimum of %d rounds (second: of %d)\n", rounds, (rounds + SELDOM - 1) / SELDOM);
     printf("%-24s %12s %12s %12s\n", "", peer_names[OURS], peer_names[FEC], peer_names[SECOND]);
     for (const row *w = rows; w < rows + ROWS; w++)
         printf("%-24s %12.1f %12.1f %12.1f\n", w->name, w->least[OURS], w->least[FEC], w->least[SECOND]);
@@ -288,7 +334,7 @@ static void print_times(int rounds) {
 }
 
 /* bench ROUNDS times everything; bench names prints the rows; bench once ROW PEER makes the calls of one row once, for callgrind, and prints
- * how many calls those are, or how many lines of spools. */
+ * how many calls those are, or how many lines of spools or steps on trays. */
 int main(int argc, char **argv) {
     if (!prepare_peers())
         return 1;

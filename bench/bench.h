@@ -23,18 +23,50 @@ typedef struct reply {
 /* Encoding takes 52 characters, the last two of them the number, and panel text takes 50; the others take the 63 characters or 9 rows, and a radius. Of two
  * scans, 126 characters, the number is 1 or 2, the scan that is kept. Products are those of each character and the one after it, 62 of them; quotients
  * likewise, 0 for one that is refused, and the distance is how many are. A spool is 255 lines, one after the other, and a sheet 63, read with no radius: the
- * number is that of its rounds. A word with blots has its map after it, 63 bytes, and no radius. */
+ * number is that of its rounds. A word with blots has its map after it, 63 bytes, and no radius. An open tray is an edited_tray, below. */
 typedef void call(const uint8_t *input, uint8_t radius, reply *r);
 
 call ours_encode, ours_encode_by_character, ours_read, ours_paper, ours_blotted, ours_better, ours_list, ours_block, ours_products, ours_quotients,
-    ours_panel_text, ours_panel_ring, ours_spool, ours_sheet;
+    ours_panel_text, ours_panel_ring, ours_spool, ours_sheet, ours_tray_replace, ours_tray_reading, ours_tray_reading_one, ours_tray_drop_add, ours_tray_count;
 
 /* libfec, or plain C; they have to be prepared once, which gives 0 where libfec cannot be. */
 int prepare_peers(void);
 call fec_encode, fec_read, fec_blotted, fec_better, fec_list, fec_panel_ring, fec_spool, fec_sheet, plain_block, plain_products, plain_quotients,
-    plain_panel_text;
+    plain_panel_text, plain_tray_walking, plain_tray_drop_add, plain_tray_count;
 
 call second_encode, second_read, second_blotted, second_better, second_list, second_block, second_products, second_quotients, second_panel_text,
-    second_panel_ring, second_spool, second_sheet;
+    second_panel_ring, second_spool, second_sheet, second_tray_replace, second_tray_drop_add, second_tray_count;
+
+/* ---- Open trays. */
+
+/* The edits of a call: each puts a character at an address of a line. */
+enum { EDITS = 64 };
+
+typedef struct edit {
+    uint8_t line, address, character;
+} edit;
+
+/* What a call takes: an open tray of 64 lines, and the edits that are made in it, one after the other. */
+typedef struct edited_tray {
+    film_tray tray;
+    edit edits[EDITS];
+} edited_tray;
+
+/* A step on a tray, which gives how many of its lines are wrong then. */
+typedef uint8_t step(film_tray *tray, edit e);
+
+/* An edit is two steps: one there, and one back with the character that stood there. The output gets what each step gave. The tray is copied once, so that
+ * each call begins with the same. */
+static inline void make_edits(const uint8_t *input, step *there, step *back, reply *r) {
+    const edited_tray *given = (const edited_tray *)input;
+    film_tray tray = given->tray;
+    for (int i = 0; i < EDITS; i++) {
+        edit e = given->edits[i], old = e;
+        old.character = tray.lines[e.line].characters[e.address];
+        r->out[2 * i] = there(&tray, e);
+        r->out[2 * i + 1] = back(&tray, old);
+    }
+    r->answer = 0, r->distance = 0, r->number = 0, r->length = 2 * EDITS;
+}
 
 #endif

@@ -94,3 +94,79 @@ void ours_sheet(const uint8_t *input, uint8_t radius, reply *r) {
     film_sheet sheet = film_read_sheet(input, FILM_SHEET, r->out, FILM_SHEET);
     r->answer = sheet.answer, r->distance = 0, r->number = sheet.rounds, r->length = FILM_SHEET;
 }
+
+/* ---- Open trays. */
+
+static uint8_t replace_step(film_tray *tray, edit e) {
+    film_tray_replace(tray, e.line, e.address, e.character);
+    return film_tray_count(tray).count;
+}
+
+void ours_tray_replace(const uint8_t *input, uint8_t radius, reply *r) {
+    (void)radius;
+    make_edits(input, replace_step, replace_step, r);
+}
+
+/* Reading at radius 0 is the fastest of the library's other ways to tell a line from other words. */
+static int is_wrong(const film_tray_line *line) {
+    uint8_t out[FILM_CHARACTERS];
+    return film_read_line(line->characters, FILM_CHARACTERS, 0, out, FILM_CHARACTERS).answer != FILM_DONE;
+}
+
+/* No sums are held: after each change all lines are read. */
+static uint8_t reading_step(film_tray *tray, edit e) {
+    uint8_t wrong = 0;
+    tray->lines[e.line].characters[e.address] = e.character;
+    for (int i = 0; i < FILM_TRAY_LINES; i++)
+        wrong += is_wrong(&tray->lines[i]);
+    return wrong;
+}
+
+void ours_tray_reading(const uint8_t *input, uint8_t radius, reply *r) {
+    (void)radius;
+    make_edits(input, reading_step, reading_step, r);
+}
+
+/* The line that was changed is read alone. Beside each line stands whether it is wrong, in the place of its sums: they are all 0, or not. */
+static uint8_t reading_one_step(film_tray *tray, edit e) {
+    static const uint8_t zeros[FILM_SUMS];
+    film_tray_line *line = &tray->lines[e.line];
+    line->characters[e.address] = e.character;
+    tray->count -= memcmp(line->sums, zeros, FILM_SUMS) != 0;
+    line->sums[0] = (uint8_t)is_wrong(line);
+    memset(line->sums + 1, 0, FILM_SUMS - 1);
+    return tray->count += line->sums[0];
+}
+
+void ours_tray_reading_one(const uint8_t *input, uint8_t radius, reply *r) {
+    (void)radius;
+    make_edits(input, reading_one_step, reading_one_step, r);
+}
+
+static uint8_t drop_step(film_tray *tray, edit e) {
+    (void)e;
+    film_tray_drop(tray);
+    return film_tray_count(tray).count;
+}
+
+/* A copy of the edit's line is added, since no line of the tray itself may be. */
+static uint8_t add_step(film_tray *tray, edit e) {
+    film_tray_line copy = tray->lines[e.line];
+    film_tray_add(tray, copy.characters, FILM_CHARACTERS);
+    return film_tray_count(tray).count;
+}
+
+void ours_tray_drop_add(const uint8_t *input, uint8_t radius, reply *r) {
+    (void)radius;
+    make_edits(input, drop_step, add_step, r);
+}
+
+static uint8_t count_step(film_tray *tray, edit e) {
+    (void)e;
+    return film_tray_count(tray).count;
+}
+
+void ours_tray_count(const uint8_t *input, uint8_t radius, reply *r) {
+    (void)radius;
+    make_edits(input, count_step, count_step, r);
+}

@@ -256,8 +256,93 @@ void fec_sheet(const uint8_t *input, uint8_t radius, reply *r) {
     r->answer = others == 0 ? FILM_DONE : FILM_IMPROPER_SHEET;
 }
 
+/* Nor has libfec open trays. The peers are plain C by a table: what each character adds to the sums at each address, ten of the eleven in one number. The
+ * eleventh, S_0, is the exclusive or of the characters. */
+enum { LANE = 6, LANES = FILM_SUMS - 1, MIDDLE = FILM_SUMS / 2 };
+
+typedef struct {
+    uint64_t ten;
+    uint8_t middle;
+} packed;
+
+static uint64_t shares[FILM_CHARACTERS][64];
+static packed of_marks;
+
+/* The sum that a lane holds: S_-5 in the lowest, and S_0 in none. */
+static int sum_in(int lane) { return lane < MIDDLE ? lane : lane + 1; }
+
+static packed sums_of(const uint8_t *line) {
+    packed sums = of_marks;
+    /* laid out in full it takes half the time, and with the other loop in it more */
+#pragma GCC unroll FILM_CHARACTERS
+    for (int a = 0; a < FILM_CHARACTERS; a++)
+        sums.ten ^= shares[a][line[a]];
+    for (int a = 0; a < FILM_CHARACTERS; a++)
+        sums.middle ^= line[a];
+    return sums;
+}
+
+static void make_shares(void) {
+    uint8_t mark[FILM_CHARACTERS] = {0};
+    for (int a = 0; a < FILM_CHARACTERS; a++)
+        for (int c = 1; c < 64; c++)
+            for (int lane = 0; lane < LANES; lane++)
+                shares[a][c] |= (uint64_t)powers[(logs[c] + (58 + sum_in(lane)) * (62 - a)) % 63] << LANE * lane;
+    marks(mark);
+    of_marks = sums_of(mark);
+}
+
+/* No sums are held: after each change those of all lines are worked out. */
+static uint8_t walking_step(film_tray *tray, edit e) {
+    uint8_t wrong = 0;
+    tray->lines[e.line].characters[e.address] = e.character;
+    for (int i = 0; i < FILM_TRAY_LINES; i++) {
+        packed sums = sums_of(tray->lines[i].characters);
+        wrong += (sums.ten | sums.middle) != 0;
+    }
+    return wrong;
+}
+
+void plain_tray_walking(const uint8_t *input, uint8_t radius, reply *r) {
+    (void)radius;
+    make_edits(input, walking_step, walking_step, r);
+}
+
+static uint8_t plain_drop_step(film_tray *tray, edit e) {
+    (void)e;
+    static const uint8_t zeros[FILM_SUMS];
+    tray->held--;
+    return tray->count -= memcmp(tray->lines[tray->held].sums, zeros, FILM_SUMS) != 0;
+}
+
+static uint8_t plain_add_step(film_tray *tray, edit e) {
+    film_tray_line *room = &tray->lines[tray->held++];
+    memmove(room->characters, tray->lines[e.line].characters, FILM_CHARACTERS);
+    packed sums = sums_of(room->characters);
+    for (int lane = 0; lane < LANES; lane++)
+        room->sums[sum_in(lane)] = sums.ten >> LANE * lane & 63;
+    room->sums[MIDDLE] = sums.middle;
+    return tray->count += (sums.ten | sums.middle) != 0;
+}
+
+void plain_tray_drop_add(const uint8_t *input, uint8_t radius, reply *r) {
+    (void)radius;
+    make_edits(input, plain_drop_step, plain_add_step, r);
+}
+
+static uint8_t plain_count_step(film_tray *tray, edit e) {
+    (void)e;
+    return tray->held > FILM_TRAY_LINES || tray->count > tray->held ? 0 : tray->count;
+}
+
+void plain_tray_count(const uint8_t *input, uint8_t radius, reply *r) {
+    (void)radius;
+    make_edits(input, plain_count_step, plain_count_step, r);
+}
+
 int prepare_peers(void) {
     fec = init_rs_char(6, 0x43, 58, 1, 11, 0);
     make_logs();
+    make_shares();
     return fec != NULL;
 }

@@ -16,6 +16,8 @@ mod field;
 mod interpolation;
 #[path = "../second/line.rs"]
 mod line;
+#[path = "../second/open_trays.rs"]
+mod open_trays;
 #[path = "../second/panel.rs"]
 mod panel;
 #[path = "../second/random.rs"]
@@ -31,6 +33,7 @@ mod sheets;
 #[path = "../second/spool.rs"]
 mod spool;
 
+use open_trays::Operation;
 use std::slice::from_raw_parts;
 use std::sync::OnceLock;
 
@@ -70,6 +73,13 @@ impl Reply {
         (self.first, self.last) = (numbers[3] as u8, numbers[4] as u8);
     }
 }
+
+/// The edits of an open tray: a line, an address and a character each.
+const EDITS: usize = 64;
+type Edit = [u8; 3];
+
+/// What an edit asks of a tray.
+type Step = fn(&[u8], Edit) -> Option<Operation>;
 
 /// The tables that the second program makes once.
 fn code() -> &'static code::Code {
@@ -143,6 +153,41 @@ pub unsafe extern "C" fn second_spool(input: *const u8, radius: u8, r: &mut Repl
 pub unsafe extern "C" fn second_sheet(input: *const u8, _: u8, r: &mut Reply) {
     let (numbers, out) = sheets::read(code(), from_raw_parts(input, sheets::SHEET), &[0; sheets::SHEET]);
     r.set(numbers[0] as u8, 0, numbers[1] as u16, &out);
+}
+
+/// Makes the edits of an open tray in two steps each, as bench/bench.h has them: `there` and `back` say what is asked of the tray before its count.
+unsafe fn edits(input: *const u8, r: &mut Reply, there: Step, back: Step) {
+    let (mut tray, mut counts) = (from_raw_parts(input, open_trays::TRAY).to_vec(), Vec::new());
+    for &[line, address, character] in from_raw_parts(input.add(open_trays::TRAY) as *const Edit, EDITS) {
+        let old = open_trays::room(&tray, line as usize)[address as usize];
+        for (step, character) in [(there, character), (back, old)] {
+            if let Some(operation) = step(&tray, [line, address, character]) {
+                tray = open_trays::operate(code(), &tray, &operation).1;
+            }
+            counts.push(open_trays::operate(code(), &tray, &Operation::Count).0[1] as u8);
+        }
+    }
+    r.set(0, 0, 0, &counts);
+}
+
+fn replace(_: &[u8], [line, address, character]: Edit) -> Option<Operation> {
+    Some(Operation::Replace { line, address, character })
+}
+
+#[no_mangle]
+pub unsafe extern "C" fn second_tray_replace(input: *const u8, _: u8, r: &mut Reply) {
+    edits(input, r, replace, replace);
+}
+
+#[no_mangle]
+pub unsafe extern "C" fn second_tray_drop_add(input: *const u8, _: u8, r: &mut Reply) {
+    let add = |tray: &[u8], [line, ..]: Edit| Some(Operation::Add(open_trays::room(tray, line as usize)[..open_trays::LINE].to_vec()));
+    edits(input, r, |_, _| Some(Operation::Drop), add);
+}
+
+#[no_mangle]
+pub unsafe extern "C" fn second_tray_count(input: *const u8, _: u8, r: &mut Reply) {
+    edits(input, r, |_, _| None, |_, _| None);
 }
 
 #[no_mangle]

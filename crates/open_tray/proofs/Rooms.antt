@@ -1,12 +1,12 @@
 -- The laws of rooms: what filling one and replacing a character in one leave in it, and what putting it back into the tray leaves of the tray.
-use mathlib.Core.Path.{_≡_, refl, sym, ap, ap₂, _∙_, subst}
+use mathlib.Core.Path.{_≡_, refl, sym, ap, ap₂, _∙_}
 use mathlib.Core.Logic.{_⊎_, inl, inr}
-use mathlib.Core.List.{List, [], _∷_, _++_, append-assoc, append-nil}
-use Prim.Native.Nat.{ℕ, zero, suc, _+_, _-_, _*_, _<_, _≤_}
+use mathlib.Core.List.{List, [], _++_, append-nil}
+use Prim.Native.Nat.{ℕ, _+_, _-_, _*_, _<_, _≤_}
 use native.Mathlib.Omega.{arith}
 use lib.Bits.{bitXor}
-use lib.ListN.{length, getD, set, take, drop, length-append, length-take, length-drop, length-set, drop-of-length-le, take-append-drop}
-use lib.Seq.{take-all, take-at, drop-at, drop-append-le, take-append-le, drop-append-add, drop-drop, length-take-le, take-set-lt, drop-set-lt, take-set-le, drop-set-add, getD-set-same, getD-set-other, getD-drop}
+use lib.ListN.{length, getD, set, take, drop, length-append, length-drop, length-set, drop-of-length-le}
+use lib.Seq.{take-all, take-at, length-take-le, take-set-lt, drop-set-lt, take-set-le, drop-set-add, getD-set-same, getD-set-other, getD-drop}
 use Rattle.numbers.specs.Below.{AllBelow}
 use Rattle.numbers.proofs.Parts.{put-in, put-long, put-same, put-before, put-behind, put-after}
 use Rattle.numbers.proofs.Cases.{le-or-lt}

@@ -1,8 +1,8 @@
 -- The turns of the loops over a line's sums: whether all are 0, and the share of a change added to each; and the sums of a line worked out afresh.
-use mathlib.Core.Path.{_≡_, refl, sym, ap, ap₂, _∙_, subst}
-use mathlib.Core.List.{List, [], _∷_, _++_}
+use mathlib.Core.Path.{_≡_, refl, sym, ap, ap₂, _∙_}
+use mathlib.Core.List.{List, [], _∷_}
 use Prim.Native.Nat.{ℕ, zero, suc, _+_, _-_, _*_, _%_, _<_, _≤_}
-use native.Mathlib.Nat.{le-of-suc-le-suc, not-suc-le-zero, add-assoc, add-comm, suc-mul, mod-lt, zero-lt-suc}
+use native.Mathlib.Nat.{le-of-suc-le-suc, not-suc-le-zero, suc-mul, mod-lt, zero-lt-suc}
 use native.Mathlib.Omega.{arith}
 use borrow.Author.Count.{below-none, below-more}
 use lib.Bits.{bitXor}
@@ -11,8 +11,7 @@ use lib.Seq.{getD-set-same, getD-set-other, ext-getD}
 use Rattle.field.specs.Field.{sum, product, α, power}
 use Rattle.field.proofs.Laws as Laws
 use Rattle.places.specs.Logs.{LogOf}
-use Rattle.code.specs.Word.{powerSum, added, marks, listed}
-use Rattle.code.specs.Inside.{PowerSums}
+use Rattle.code.specs.Word.{powerSum, added, marks}
 use Rattle.code.proofs.Words.{listed-long, listed-get, length-added, added-get}
 use Rattle.code.proofs.Sums.{powerSum-added}
 use Rattle.code.proofs.Lines.{marks-long}

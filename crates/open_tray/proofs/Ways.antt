@@ -7,18 +7,16 @@ use native.Mathlib.Omega.{arith}
 use mir.Syntax.{w8}
 use mir.Val.{Fits}
 use borrow.Author.Tests.{not-true, not-false, leb-true, leb-false}
-use lib.Bits.{bitXor}
 use lib.Dec.{leb}
-use lib.ListN.{length, getD, set, take, drop, length-append, length-drop, length-set}
+use lib.ListN.{length, getD, set, take, drop, length-append, length-set}
 use lib.Seq.{take-at, drop-at, length-take-le, getD-take}
 use Rattle.numbers.specs.Below.{AllBelow}
-use Rattle.refusal.specs.Promise.{Test, Tells}
+use Rattle.refusal.specs.Promise.{Tells}
 use Rattle.refusal.proofs.Laws.{tells-no}
 use Rattle.refusal.proofs.Ladder.{Yes, No, Met, FailsAt, answerAt, refuses, succeeds, declines, replies}
 use Rattle.field.specs.Field.{sum}
 use Rattle.field.proofs.Laws as Laws
-use Rattle.code.specs.Word.{Characters}
-use Rattle.open_tray.specs.Tray.{room, charactersAt, sumsAt, held, count, freshSums, wrong, withShares, Fit, Sound, Edited}
+use Rattle.open_tray.specs.Tray.{room, charactersAt, sumsAt, held, count, freshSums, wrong, withShares, Fit, Sound}
 use Rattle.open_tray.specs.Promises.{addTests, Added, Adds, replaceTests, sumsAfter, Replaced, Replaces, lastLine, dropTests, Dropped, Drops, askTests, Asks}
 use Rattle.open_tray.specs.Inside.{replacedIn}
 use Rattle.open_tray.proofs.Rooms.{replaced-room-long, room-long, Put, put-none, put-back, count-written, both-written, edited-as}

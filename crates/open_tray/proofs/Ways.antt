@@ -11,6 +11,7 @@ use lib.Dec.{leb}
 use lib.ListN.{length, getD, set, take, drop, length-append, length-set}
 use lib.Seq.{take-at, drop-at, length-take-le, getD-take}
 use Rattle.numbers.specs.Below.{AllBelow}
+use Rattle.numbers.proofs.Cases.{pos-of-not-zero}
 use Rattle.refusal.specs.Promise.{Tells}
 use Rattle.refusal.proofs.Laws.{tells-no}
 use Rattle.refusal.proofs.Ladder.{Yes, No, Met, FailsAt, answerAt, refuses, succeeds, declines, replies}
@@ -195,11 +196,11 @@ module _ (t : List ℕ) (i a c : ℕ) where
 
 -- ---- dropping
 
-pub none-left : (t : List ℕ) (h : ℕ) → h ≡ held t → h < 1 → No (0 < held t)
-none-left t h e l = record { not = λ g. omega arith }
+pub none-left : (t : List ℕ) (h : ℕ) → h ≡ held t → h ≡ 0 → No (0 < held t)
+none-left t h e z = record { not = λ g. omega arith }
 
-pub one-left : (t : List ℕ) (h : ℕ) → h ≡ held t → 1 ≤ h → Yes (0 < held t)
-one-left t h e l = record { is = omega arith }
+pub one-left : (t : List ℕ) (h : ℕ) → h ≡ held t → (h ≡ 0 → ⊥) → Yes (0 < held t)
+one-left t h e d = record { is = let l = pos-of-not-zero h d in omega arith }
 
 -- where h lines are held, line h - 1 is the last
 module _ (t : List ℕ) (h : ℕ) (e : h ≡ held t) where

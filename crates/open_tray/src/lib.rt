@@ -21,6 +21,11 @@ const HIGHEST: u8 = 63;
 // The power sums of a line.
 const SUMS: usize = 11;
 
+// The exponent of the first of them, S_-5: -5 modulo 63. The powers of α return to 1 after 63.
+const FIRST_EXPONENT: u16 = 58;
+
+const PERIOD: u8 = 63;
+
 // The room for a line: its characters, and then its sums.
 const ROOM: usize = 74;
 
@@ -98,13 +103,14 @@ pub fn drop_line(tray: &mut [u8]) -> TrayEdit
         return TrayEdit::Refused(Refusal::TrayUnfit);
     }
     let held = eights::byte_at(tray, HELD);
-    if held < 1 {
+    if held == 0 {
         return TrayEdit::Refused(Refusal::LineNotHeld);
     }
-    if !sound(tray, held - 1) {
+    let last = held - 1;
+    if !sound(tray, last) {
         return TrayEdit::Refused(Refusal::TrayUnfit);
     }
-    lose_line(tray, held - 1);
+    lose_line(tray, last);
     TrayEdit::Done
 }
 
@@ -259,7 +265,7 @@ fn add_shares(sums: &mut [u8], address: u8, change: u8)
     let mut k: usize = 0;
     while k < SUMS {
         sums[k] = sums[k] ^ places::power_of(log);
-        log = (log + after) % 63;
+        log = (log + after) % PERIOD;
         k += 1;
     }
 }
@@ -270,5 +276,5 @@ fn first_log(change: u8, after: u8) -> u8
     requires { ⌜ after ≤ 62 ⌝ }
     ensures { λ r. ⌜ FirstLog change after r ⌝ }
 {
-    ((places::log_of(change) as u16 + 58 * after as u16) % 63) as u8
+    ((places::log_of(change) as u16 + FIRST_EXPONENT * after as u16) % PERIOD as u16) as u8
 }

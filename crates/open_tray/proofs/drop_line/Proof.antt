@@ -1,5 +1,6 @@
 -- `open_tray::drop_line` meets its contract: each refusal by its own test, in the paper's order; and the line lost.
 use borrow.Author.Needs.{needs}
+use Rattle.numbers.proofs.Cases.{pos-of-not-zero}
 use Rattle.refusal.proofs.Ladder.{verdicts, told-yes}
 use Rattle.open_tray.proofs.Ways.{none-left, one-left, may-look-last, last-unsound, last-sound, may-drop, drop-refused, line-dropped}
 use Rattle.open_tray.proofs.drop_line.Statement.{statement}
@@ -36,6 +37,7 @@ drop-line-spec =
     (λ c κs. search needs)
     (λ c. search needs)
     (λ c. drop-refused _ 1 (search (none-left, verdicts, needs) depth 9))
+    (λ c. pos-of-not-zero _ (c .if2 .left))
     sound-requires
     (λ c. search needs)
     (λ c. drop-refused _ 2 (search (one-left, last-unsound, verdicts, needs) depth 9))

@@ -23,19 +23,22 @@ typedef struct reply {
 /* Encoding takes 52 characters, the last two of them the number, and panel text takes 50; the others take the 63 characters or 9 rows, and a radius. Of two
  * scans, 126 characters, the number is 1 or 2, the scan that is kept. Products are those of each character and the one after it, 62 of them; quotients
  * likewise, 0 for one that is refused, and the distance is how many are. A spool is 255 lines, one after the other, and a sheet 63, read with no radius: the
- * number is that of its rounds. A word with blots has its map after it, 63 bytes, and no radius. An open tray is an edited_tray, below. */
+ * number is that of its rounds. A word with blots has its map after it, 63 bytes, and no radius. A block that outlasts a smudge is 8 rows, and encoding one
+ * takes 7. An open tray is an edited_tray, below. */
 typedef void call(const uint8_t *input, uint8_t radius, reply *r);
 
 call ours_encode, ours_encode_by_character, ours_read, ours_paper, ours_blotted, ours_better, ours_list, ours_block, ours_products, ours_quotients,
-    ours_panel_text, ours_panel_ring, ours_spool, ours_sheet, ours_tray_replace, ours_tray_reading, ours_tray_reading_one, ours_tray_drop_add, ours_tray_count;
+    ours_panel_text, ours_panel_ring, ours_spool, ours_sheet, ours_tray_replace, ours_tray_reading, ours_tray_reading_one, ours_tray_drop_add, ours_tray_count,
+    ours_smudge, ours_encode_smudge;
 
-/* libfec, or plain C; they have to be prepared once, which gives 0 where libfec cannot be. */
+/* libfec, or plain C; they have to be prepared once, which gives 0 where libfec cannot be, and prepares the peer of smudges as well. */
 int prepare_peers(void);
+void prepare_smudges(void);
 call fec_encode, fec_read, fec_blotted, fec_better, fec_list, fec_panel_ring, fec_spool, fec_sheet, plain_block, plain_products, plain_quotients,
-    plain_panel_text, plain_tray_walking, plain_tray_drop_add, plain_tray_count;
+    plain_panel_text, plain_tray_walking, plain_tray_drop_add, plain_tray_count, plain_smudge, plain_encode_smudge;
 
 call second_encode, second_read, second_blotted, second_better, second_list, second_block, second_products, second_quotients, second_panel_text,
-    second_panel_ring, second_spool, second_sheet, second_tray_replace, second_tray_drop_add, second_tray_count;
+    second_panel_ring, second_spool, second_sheet, second_tray_replace, second_tray_drop_add, second_tray_count, second_smudge, second_encode_smudge;
 
 /* ---- Open trays. */
 

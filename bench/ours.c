@@ -53,6 +53,18 @@ void ours_block(const uint8_t *input, uint8_t radius, reply *r) {
     r->answer = block.answer, r->distance = block.distance, r->number = 0, r->length = block.answer == 0 ? 9 : 0;
 }
 
+void ours_smudge(const uint8_t *input, uint8_t radius, reply *r) {
+    (void)radius;
+    film_block block = film_read_smudge(input, FILM_SMUDGE, r->out, FILM_SMUDGE);
+    r->answer = block.answer, r->distance = block.distance, r->number = 0, r->length = block.answer == 0 ? FILM_SMUDGE : 0;
+}
+
+void ours_encode_smudge(const uint8_t *input, uint8_t radius, reply *r) {
+    (void)radius;
+    r->answer = film_encode_smudge(input, FILM_SMUDGE - 1, r->out, FILM_SMUDGE);
+    r->distance = 0, r->number = 0, r->length = FILM_SMUDGE;
+}
+
 void ours_products(const uint8_t *input, uint8_t radius, reply *r) {
     (void)radius;
     r->answer = 0, r->distance = 0, r->number = 0, r->length = 62;

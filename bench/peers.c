@@ -1,4 +1,4 @@
-/* The peers in C: libfec behind a small adapter, and plain C for what libfec has nothing of.
+/* The peers in C: libfec behind a small adapter, and plain C for what libfec has nothing of; that of smudges is in bench/smudge_peer.c.
  *
  * libfec knows neither marks nor numbers nor rings nor maps: the adapter takes the marks off and puts them on again, turns a ring 126 times, and lists
  * the blots of a map. Unlike the library neither it nor the plain C tests lengths or characters. */
@@ -344,5 +344,6 @@ int prepare_peers(void) {
     fec = init_rs_char(6, 0x43, 58, 1, 11, 0);
     make_logs();
     make_shares();
+    prepare_smudges();
     return fec != NULL;
 }

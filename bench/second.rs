@@ -30,6 +30,8 @@ mod ring;
 mod scans;
 #[path = "../second/sheets.rs"]
 mod sheets;
+#[path = "../second/smudge.rs"]
+mod smudge;
 #[path = "../second/spool.rs"]
 mod spool;
 
@@ -194,4 +196,16 @@ pub unsafe extern "C" fn second_tray_count(input: *const u8, _: u8, r: &mut Repl
 pub unsafe extern "C" fn second_block(input: *const u8, _: u8, r: &mut Reply) {
     let (answer, distance, out) = block::read(from_raw_parts(input, 9), 9);
     r.set(answer, distance as usize, 0, &out);
+}
+
+#[no_mangle]
+pub unsafe extern "C" fn second_smudge(input: *const u8, _: u8, r: &mut Reply) {
+    let (numbers, out) = smudge::read(from_raw_parts(input, smudge::SIDE), &[0; smudge::SIDE]);
+    r.set(numbers[0] as u8, numbers[1], 0, &out);
+}
+
+#[no_mangle]
+pub unsafe extern "C" fn second_encode_smudge(input: *const u8, _: u8, r: &mut Reply) {
+    let (numbers, out) = smudge::encode(from_raw_parts(input, smudge::DATA), &[0; smudge::SIDE]);
+    r.set(numbers[0] as u8, 0, 0, &out);
 }

@@ -1,10 +1,11 @@
 /* Faults that the fuzz target has to find: each stands between the target and the library. `fuzz/run faults` builds one after the other.
- * sheet_faults.h has those of sheets, and open_tray_faults.h those of open trays.
+ * sheet_faults.h has those of sheets, open_tray_faults.h those of open trays, and smudge_faults.h those of smudges.
  *
  * It is built without sanitizers, as the library is. */
 #include "film.h"
 #include "open_tray_faults.h"
 #include "sheet_faults.h"
+#include "smudge_faults.h"
 #include <string.h>
 
 film_element __real_film_product(uint8_t u, uint8_t v);

@@ -1,7 +1,7 @@
 /* The fuzz target: every function of include/film.h on hostile bytes, each answer and each output byte held against plain C.
- * rules.h has the rules; the calls stand in encoding.h, lines.h, paper.h, blots.h, spool.h, sheet.h, open_tray.h, rings.h, panel.h and
- * blocks.h, and each works out what it can of the answer first, in the order of the refusals; those of paper.h have to give what those of
- * lines.h gave. dust.h makes sheets of few bytes, and rooms.h open trays.
+ * rules.h has the rules; the calls stand in encoding.h, lines.h, paper.h, blots.h, spool.h, sheet.h, open_tray.h, rings.h, panel.h,
+ * blocks.h and smudge.h, and each works out what it can of the answer first, in the order of the refusals; those of paper.h have to give
+ * what those of lines.h gave. dust.h makes sheets of few bytes, and rooms.h open trays.
  *
  * fuzz/run builds it with libFuzzer and the address and undefined-behaviour sanitizers, and runs it. The library is linked as it
  * is proved, so the sanitizers do not see into it. Its slices therefore lie against pages that nobody may touch: the input ends
@@ -22,6 +22,7 @@
 #include "rooms.h"
 #include "rules.h"
 #include "sheet.h"
+#include "smudge.h"
 #include "spool.h"
 #include "taken.h"
 
@@ -45,7 +46,7 @@ int LLVMFuzzerInitialize(int *argc, char ***argv) {
 int LLVMFuzzerTestOneInput(const uint8_t *data, size_t size) {
     static void (*const calls[])(void) = {field_calls, register_calls, encode_line_call, read_line_calls, recurrence_calls, scan_calls, merged_call,
                                           moved_call, blots_call, spool_call, encode_sheet_call, read_sheet_call, open_tray_calls, ring_calls,
-                                          panel_text_call, panel_ring_call, block_calls};
+                                          panel_text_call, panel_ring_call, block_calls, smudge_calls};
     next = data;
     left = size;
     calls[take() % (sizeof calls / sizeof calls[0])]();

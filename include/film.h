@@ -27,7 +27,7 @@ extern "C" {
 /* ---- The version of this header. tools/tables writes its three numbers from version.txt. */
 
 #define FILM_VERSION_MAJOR 4
-#define FILM_VERSION_MINOR 6
+#define FILM_VERSION_MINOR 7
 #define FILM_VERSION_PATCH 0
 #define FILM_VERSION (1000000 * FILM_VERSION_MAJOR + 1000 * FILM_VERSION_MINOR + FILM_VERSION_PATCH)
 
@@ -47,8 +47,8 @@ enum {
     FILM_OUTPUT_LENGTH = 5,     /* output length differs from the one stated, or is under 294 for panel text */
     FILM_NO_LINE = 6,           /* no line within the radius; for ring reading, an empty list; with blots, no such line */
     FILM_OTHER_NUMBER = 7,      /* the line found has another number than the wanted one */
-    FILM_ROW_COUNT = 8,         /* block rows outside 2..64, or data rows outside 1..63 */
-    FILM_NO_BLOCK = 9,          /* no proper block within one bit */
+    FILM_ROW_COUNT = 8,         /* block rows outside 2..64, or data rows outside 1..63; with a smudge, not eight rows, or not seven data rows */
+    FILM_NO_BLOCK = 9,          /* no proper block within one bit; with a smudge, none that differs inside one window of two by two cells alone */
     FILM_MANY_STARTS = 10,      /* ring reading: two or more entries in the list */
     FILM_REGISTER_FULL = 11,    /* a step is asked of a register that holds 52 characters, or anything of one whose count is above 52 */
     FILM_REGISTER_SHORT = 12,   /* register holds fewer than 52 */
@@ -73,7 +73,8 @@ enum {
     FILM_TRAY = 4738,     /* an open tray: sizeof(film_tray) */
     FILM_SPOOL = 16065,   /* the longest spool, 255 lines; the output of reading a spool is as long as the spool */
     FILM_PANEL = 294,     /* the least output of panel text, and the longest text for a panel */
-    FILM_CHECKS = 11      /* a register's characters, and the checks */
+    FILM_CHECKS = 11,     /* a register's characters, and the checks */
+    FILM_SMUDGE = 8       /* a block that outlasts a smudge, and the output of encoding and reading it */
 };
 
 /* ---- The field of 64 elements: sum, product and quotient. Refusals: 2; of a quotient 2, 13: by 0 there is none. A product
@@ -315,6 +316,19 @@ uint8_t film_encode_block(const uint8_t *data, size_t data_len, uint8_t *out, si
 
 /* The output, as long as the rows, gets the proper block at distance 0 or 1 bit from them. Refusals: 8, 5, 9. */
 film_block film_read_block(const uint8_t *rows, size_t rows_len, uint8_t *out, size_t out_len);
+
+/* ---- A block that outlasts a smudge: eight rows of eight cells, stored staggered. Cell j of row i is bit j of byte i. To
+ * straighten it, every cell of an odd column moves two rows up, and then every cell of an odd row two cells toward bit 0,
+ * both around the edge; what comes of that has to be a proper block. The cells of a window of two by two, which does not go
+ * around the edge, so come to four rows and to four columns. */
+
+/* Takes seven data rows, each at most 127, and an output of 8, which gets the block with those data rows, staggered.
+ * Refusals: 8, 5, 2. */
+uint8_t film_encode_smudge(const uint8_t *data, size_t data_len, uint8_t *out, size_t out_len);
+
+/* Takes eight rows, staggered, and an output of 8, which gets the one such block, staggered, that differs from them inside
+ * one window of two by two alone, if at all; the distance is 0 to 4 bits. Refusals: 8, 5, 9. */
+film_block film_read_smudge(const uint8_t *rows, size_t rows_len, uint8_t *out, size_t out_len);
 
 #ifdef __cplusplus
 }

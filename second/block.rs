@@ -9,11 +9,11 @@ const UNTOUCHED: u8 = 170;
 pub const BENCH_ROWS: [[u8; 2]; 4] = [[3, 252], [3, 253], [3, 3], [3, 0]];
 pub const BENCH_ROW_COUNTS: [usize; 4] = [1, 2, 64, 65];
 
-fn bit(rows: &[u8], row: usize, column: usize) -> u8 {
+pub fn bit(rows: &[u8], row: usize, column: usize) -> u8 {
     (rows[row] >> column) & 1
 }
 
-fn is_proper(rows: &[u8]) -> bool {
+pub fn is_proper(rows: &[u8]) -> bool {
     let row_is_even = |row| (0..8).filter(|&column| bit(rows, row, column) == 1).count() % 2 == 0;
     let column_is_odd = |column| (0..rows.len()).filter(|&row| bit(rows, row, column) == 1).count() % 2 == 1;
     (0..rows.len()).all(row_is_even) && (0..8).all(column_is_odd)

@@ -18,6 +18,7 @@ mod paper;
 mod ring;
 mod scans;
 mod sheets;
+mod smudges;
 mod spool;
 mod twice;
 mod words;
@@ -50,6 +51,8 @@ const READ_LINE_PAPER_WANTED: Call = Call(19, "read_line_paper_wanted");
 const READ_SHEET: Call = Call(20, "read_sheet");
 const ENCODE_SHEET: Call = Call(21, "encode_sheet");
 const OPEN_TRAY: Call = Call(22, "open_tray");
+const ENCODE_SMUDGE: Call = Call(23, "encode_smudge");
+const READ_SMUDGE: Call = Call(24, "read_smudge");
 
 /// What is handed over: the head's fields, and the input.
 struct Case<'a> {
@@ -126,6 +129,7 @@ pub fn stored() -> (Vec<u8>, String) {
         paper::add_all,
         sheets::add_all,
         open_trays::add_all,
+        smudges::add_all,
     ];
     for add_all in sections {
         add_all(&mut cases);

@@ -123,6 +123,8 @@ extern "C" {
     pub fn film_panel_ring(ring: *const u8, ring_len: usize, radius: u8, out: *mut u8, out_len: usize) -> Panel;
     pub fn film_encode_block(data: *const u8, data_len: usize, out: *mut u8, out_len: usize) -> u8;
     pub fn film_read_block(rows: *const u8, rows_len: usize, out: *mut u8, out_len: usize) -> Block;
+    pub fn film_encode_smudge(data: *const u8, data_len: usize, out: *mut u8, out_len: usize) -> u8;
+    pub fn film_read_smudge(rows: *const u8, rows_len: usize, out: *mut u8, out_len: usize) -> Block;
     pub fn film_step(before: Register, c: u8) -> Stepped;
     pub fn film_checks(taken: Register) -> Checked;
 }

@@ -4,8 +4,8 @@
 //! tools/compare-library builds and runs it: library ROUNDS [SEED]. Each output lies between two rows of bytes that must stay, and so does each
 //! input, which must stay too. All pairs of operands are tried, every length up to 300, a byte that is too high at every place, and the rows of the
 //! bench sheet; the rest is random, and the same in every run with that seed. second/library/ has the calls of lines, in the library's way and in the
-//! paper's, of registers, of spools, of sheets, of open trays, with blots and for a panel, and what the change requests speak of. At the end each call
-//! must have given each answer that it can give.
+//! paper's, of registers, of spools, of sheets, of open trays, with blots, with smudges and for a panel, and what the change requests speak of. At the end each
+//! call must have given each answer that it can give.
 
 // Of the second program only what answers is called here; what writes the stored files is not.
 #![allow(dead_code)]
@@ -27,6 +27,7 @@ mod interface;
 mod interpolation;
 mod lent;
 mod line;
+mod locator;
 #[path = "library/open_trays.rs"]
 mod open_tray_calls;
 mod open_trays;
@@ -46,6 +47,9 @@ mod scans;
 #[path = "library/sheets.rs"]
 mod sheet_calls;
 mod sheets;
+mod smudge;
+#[path = "library/smudges.rs"]
+mod smudges;
 mod spool;
 #[path = "library/spools.rs"]
 mod spools;
@@ -63,7 +67,7 @@ use std::fmt::Debug;
 use std::process::exit;
 
 /// The version that the library has to tell. tools/tables writes it from version.txt.
-const VERSION: u32 = 4006000;
+const VERSION: u32 = 4007000;
 
 const UNTOUCHED: u8 = 170;
 
@@ -350,6 +354,7 @@ fn main() {
     comparison.paper();
     comparison.sheets();
     comparison.open_trays();
+    comparison.smudges();
     for i in 0..rounds {
         comparison.round(i % 8 == 0);
         if i % 8 == 0 {
@@ -363,6 +368,7 @@ fn main() {
             comparison.any_spool();
             comparison.any_blots();
             comparison.any_paper();
+            comparison.any_smudge();
         }
         if i % 64 == 0 {
             comparison.by_the_character();

@@ -17,9 +17,9 @@ pub const OUTPUT_LENGTH: u8 = 5;
 pub const NO_LINE: u8 = 6;
 /// The line found has another number than the wanted one.
 pub const OTHER_NUMBER: u8 = 7;
-/// Block rows outside 2..64, or data rows outside 1..63.
+/// Block rows outside 2..64, or data rows outside 1..63; with a smudge, not eight rows, or not seven data rows.
 pub const ROW_COUNT: u8 = 8;
-/// No proper block within one bit.
+/// No proper block within one bit; with a smudge, none that differs inside one window of two by two cells alone.
 pub const NO_BLOCK: u8 = 9;
 /// Ring reading: two or more entries in the list.
 pub const MANY_STARTS: u8 = 10;

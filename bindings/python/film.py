@@ -15,14 +15,15 @@ OpenTray. The shared library is the one that FILM_LIBRARY names, or target/film/
 version is an ImportError.
 """
 
-from typing import NamedTuple, Optional
+from typing import Optional
 
 import film_library
 import film_tray
 from film_library import as_bytes as _bytes, bounded as _bounded, byte as _byte
+from film_readings import BlockRead, LineRead, RingRead, SheetRead
 
 # tools/tables writes this from version.txt, and the refusals below from refusals.txt.
-__version__ = "4.6.0"
+__version__ = "4.7.0"
 
 # In the place of an address: nothing was changed.
 NOWHERE = 63
@@ -45,6 +46,9 @@ SUMS = film_library.SUMS
 # The least output of panel text, and the longest text for a panel.
 PANEL = 294
 
+# The bytes of a block that outlasts a smudge.
+SMUDGE = 8
+
 # The numbered answers, as the paper gives them; 0 is a success.
 REFUSALS = {
     1: "a line, ring or map of blots is not 63 long, a text is not 50 long, a sheet is not 3,969 long, its texts are not 2,600 long or its numbers not 52, or a spool's length is no multiple of 63 or is over 16,065",
@@ -54,8 +58,8 @@ REFUSALS = {
     5: "output length differs from the one stated, or is under 294 for panel text",
     6: "no line within the radius; for ring reading, an empty list; with blots, no such line",
     7: "the line found has another number than the wanted one",
-    8: "block rows outside 2..64, or data rows outside 1..63",
-    9: "no proper block within one bit",
+    8: "block rows outside 2..64, or data rows outside 1..63; with a smudge, not eight rows, or not seven data rows",
+    9: "no proper block within one bit; with a smudge, none that differs inside one window of two by two cells alone",
     10: "ring reading: two or more entries in the list",
     11: "a step is asked of a register that holds 52 characters, or anything of one whose count is above 52",
     12: "register holds fewer than 52",
@@ -86,42 +90,6 @@ class ImproperSheet(Refused):
         super().__init__(self.NUMBER)
         self.sheet = sheet
         self.rounds = rounds
-
-
-class LineRead(NamedTuple):
-    """A line that was read, its number, in how many addresses the word differs from it, and the first and the last of them, or NOWHERE."""
-
-    line: bytes
-    number: int
-    distance: int
-    first: int
-    last: int
-
-
-class SheetRead(NamedTuple):
-    """A proper sheet, and how many rounds were run, the last counted."""
-
-    sheet: bytes
-    rounds: int
-
-
-class RingRead(NamedTuple):
-    """The one start that is listed (0 to 62 forward, 63 to 125 backward), the line there, its number, in how many addresses the word there differs from
-    it, and the first and the last of them, addresses of the line and no places on the ring, or NOWHERE."""
-
-    line: bytes
-    start: int
-    number: int
-    distance: int
-    first: int
-    last: int
-
-
-class BlockRead(NamedTuple):
-    """The proper block, and its distance from the rows: 0 or 1 bit."""
-
-    rows: bytes
-    distance: int
 
 
 _library = film_library.load(film_library.shared_library(), int(__version__.split(".")[0]))
@@ -367,6 +335,28 @@ def read_block(rows, out: Optional[bytearray] = None) -> BlockRead:
     """The proper block within one bit of 2 to 64 rows. Dark film is no block."""
     rows = _bytes(rows)
     result, block = _call(_library.film_read_block, rows, room=len(rows), out=out)
+    return BlockRead(block, result.distance)
+
+
+def encode_smudge(data, out: Optional[bytearray] = None) -> bytes:
+    """The block that encode_block makes of these seven data rows, staggered, so that it outlasts a smudge. Cell j of row i is bit j of byte i. To straighten
+    it, every cell of an odd column moves two rows up, and then every cell of an odd row two cells toward bit 0, both around the edge."""
+    return _call(_library.film_encode_smudge, data, room=SMUDGE, out=out)[1]
+
+
+def read_smudge(rows, out: Optional[bytearray] = None) -> BlockRead:
+    """The block, staggered, that differs from eight rows inside one window of two by two cells alone, if at all; there is never a second one. A window does
+    not go around the edge, and dark film is no block.
+
+    >>> block = encode_smudge([1, 2, 3, 4, 5, 6, 7])
+    >>> scan = bytearray(block)
+    >>> scan[4] ^= 0b11000
+    >>> scan[5] ^= 0b11000
+    >>> read = read_smudge(scan)
+    >>> read.rows == block, read.distance
+    (True, 4)
+    """
+    result, block = _call(_library.film_read_smudge, rows, room=SMUDGE, out=out)
     return BlockRead(block, result.distance)
 
 

@@ -146,6 +146,8 @@ def load(path, own):
         ("panel_ring", given + [u8] + output, Panel),
         ("encode_block", given + output, u8),
         ("read_block", given + output, Block),
+        ("encode_smudge", given + output, u8),
+        ("read_smudge", given + output, Block),
     ]:
         function = getattr(library, "film_" + name)
         function.argtypes, function.restype = takes, gives

@@ -2,14 +2,16 @@
 
 use crate::refusals::*;
 use crate::sheet_calls::READ_SHEET;
+use crate::smudges::{READ_SMUDGE, REFUSED_SMUDGE};
 use std::collections::BTreeMap;
 
 /// How often each call gave each answer.
 pub type Given = BTreeMap<(&'static str, usize), u64>;
 
 /// Each call, and every answer that it can give. A spool's line and an unblotted one, a word with no blot, are read alone, by film_read_line; reading a
-/// sheet is another call for each number of rounds, and what is asked of an open tray for each cause of 17 and each way that the count goes.
-const ANSWERS: [(&str, &[u8]); 50] = [
+/// sheet is another call for each number of rounds, reading with a smudge for each number of wrong cells, and what is asked of an open tray for each cause of
+/// 17 and each way that the count goes.
+const ANSWERS: [(&str, &[u8]); 57] = [
     ("sum", &[0, VALUE_OVER]),
     ("product", &[0, VALUE_OVER]),
     ("quotient", &[0, VALUE_OVER, QUOTIENT_BY_ZERO]),
@@ -58,6 +60,13 @@ const ANSWERS: [(&str, &[u8]); 50] = [
     ("panel_ring", &[0, INPUT_LENGTH, VALUE_OVER, RADIUS_OVER, OUTPUT_LENGTH, NO_LINE, MANY_STARTS, TEMPLATE, UNKNOWN_KIND]),
     ("encode_block", &[0, VALUE_OVER, OUTPUT_LENGTH, ROW_COUNT]),
     ("read_block", &[0, OUTPUT_LENGTH, ROW_COUNT, NO_BLOCK]),
+    ("encode_smudge", &[0, VALUE_OVER, OUTPUT_LENGTH, ROW_COUNT]),
+    (REFUSED_SMUDGE, &[OUTPUT_LENGTH, ROW_COUNT, NO_BLOCK]),
+    (READ_SMUDGE[0], &[0]),
+    (READ_SMUDGE[1], &[0]),
+    (READ_SMUDGE[2], &[0]),
+    (READ_SMUDGE[3], &[0]),
+    (READ_SMUDGE[4], &[0]),
     ("step", &[0, VALUE_OVER, REGISTER_FULL]),
     ("checks", &[0, VALUE_OVER, REGISTER_FULL, REGISTER_SHORT]),
 ];

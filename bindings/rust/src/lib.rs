@@ -25,11 +25,13 @@ mod library;
 mod open_tray;
 mod refusal;
 mod sheet;
+mod smudge;
 mod spool;
 
 pub use open_tray::{OpenTray, SUMS, TRAY, TRAY_LINES};
 pub use refusal::Refusal;
 pub use sheet::{encode_sheet, read_sheet, SheetRefusal, NUMBERS, ROUNDS, SHEET, TEXTS};
+pub use smudge::{encode_smudge, read_smudge, SMUDGE};
 pub use spool::{read_spool, SpoolRead, PLACES, SPOOL};
 
 /// How many characters a line has.
@@ -37,7 +39,7 @@ const LINE: usize = 63;
 
 /// The version that this crate was made for: a million times the major number, a thousand times the minor, and the patch. It is the crate's own;
 /// tools/tables writes it from version.txt.
-pub const VERSION: u32 = 4006000;
+pub const VERSION: u32 = 4007000;
 
 /// The version of the library that is linked, written as [`VERSION`] is.
 pub fn version() -> u32 {

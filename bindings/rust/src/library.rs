@@ -107,6 +107,8 @@ extern "C" {
     fn film_panel_ring(ring: *const u8, ring_len: usize, radius: u8, out: *mut u8, out_len: usize) -> Panel;
     fn film_encode_block(data: *const u8, data_len: usize, out: *mut u8, out_len: usize) -> u8;
     fn film_read_block(rows: *const u8, rows_len: usize, out: *mut u8, out_len: usize) -> Block;
+    fn film_encode_smudge(data: *const u8, data_len: usize, out: *mut u8, out_len: usize) -> u8;
+    fn film_read_smudge(rows: *const u8, rows_len: usize, out: *mut u8, out_len: usize) -> Block;
     fn film_step(before: Register, c: u8) -> Stepped;
     fn film_checks(taken: Register) -> Checked;
 }
@@ -208,6 +210,14 @@ pub fn encode_block(data: &[u8], out: &mut [u8]) -> u8 {
 
 pub fn read_block(rows: &[u8], out: &mut [u8]) -> Block {
     unsafe { film_read_block(rows.as_ptr(), rows.len(), out.as_mut_ptr(), out.len()) }
+}
+
+pub fn encode_smudge(data: &[u8], out: &mut [u8]) -> u8 {
+    unsafe { film_encode_smudge(data.as_ptr(), data.len(), out.as_mut_ptr(), out.len()) }
+}
+
+pub fn read_smudge(rows: &[u8], out: &mut [u8]) -> Block {
+    unsafe { film_read_smudge(rows.as_ptr(), rows.len(), out.as_mut_ptr(), out.len()) }
 }
 
 pub fn step(before: Register, c: u8) -> Stepped {

@@ -20,9 +20,9 @@ pub enum Refusal {
     NoLine,
     /// The line found has another number than the wanted one.
     OtherNumber,
-    /// Block rows outside 2..64, or data rows outside 1..63.
+    /// Block rows outside 2..64, or data rows outside 1..63; with a smudge, not eight rows, or not seven data rows.
     RowCount,
-    /// No proper block within one bit.
+    /// No proper block within one bit; with a smudge, none that differs inside one window of two by two cells alone.
     NoBlock,
     /// Ring reading: two or more entries in the list.
     ManyStarts,
@@ -118,8 +118,8 @@ impl fmt::Display for Refusal {
             Refusal::OutputLength => "output length differs from the one stated, or is under 294 for panel text",
             Refusal::NoLine => "no line within the radius; for ring reading, an empty list; with blots, no such line",
             Refusal::OtherNumber => "the line found has another number than the wanted one",
-            Refusal::RowCount => "block rows outside 2..64, or data rows outside 1..63",
-            Refusal::NoBlock => "no proper block within one bit",
+            Refusal::RowCount => "block rows outside 2..64, or data rows outside 1..63; with a smudge, not eight rows, or not seven data rows",
+            Refusal::NoBlock => "no proper block within one bit; with a smudge, none that differs inside one window of two by two cells alone",
             Refusal::ManyStarts => "ring reading: two or more entries in the list",
             Refusal::RegisterFull => "a step is asked of a register that holds 52 characters, or anything of one whose count is above 52",
             Refusal::RegisterShort => "register holds fewer than 52",

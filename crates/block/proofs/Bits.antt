@@ -45,15 +45,15 @@ pub xor-bit : (a b : ℕ) → bitXor a b % 2 ≡ (a + b) % 2
 xor-bit a b = let h : bitXor a b + bitAnd a b * 2 ≡ a + b = xor-add-and a b in omega arith
 
 -- the ones of a number of n bits stand in its lowest n
-lowest : (n x : ℕ) → x < 2 ^ n → lib.Count.ones x ≡ onesIn n x
+pub lowest-ones : (n x : ℕ) → x < 2 ^ n → lib.Count.ones x ≡ onesIn n x
 unfolding onesIn lib.Count.ones
-lowest zero x h = let e : x ≡ 0 = omega arith in rw e refl
-lowest (suc n) x h =
+lowest-ones zero x h = let e : x ≡ 0 = omega arith in rw e refl
+lowest-ones (suc n) x h =
     let l : x < 2 ^ n * 2 = rw pow-suc at h in
-    lib.Count.ones-step x ∙ ap (λ (k : ℕ). x % 2 + k) (lowest n (x / 2) (omega arith))
+    lib.Count.ones-step x ∙ ap (λ (k : ℕ). x % 2 + k) (lowest-ones n (x / 2) (omega arith))
 
 pub byte-ones : (x : ℕ) → x < 256 → lib.Count.ones x ≡ ones x
-byte-ones x h = lowest 8 x h
+byte-ones x h = lowest-ones 8 x h
 
 -- a byte of one bit
 one-bit-test : T (each 8 (λ j. eqb (ones (2 ^ j)) 1))

@@ -12,7 +12,7 @@ use lib.Dec.{T, eqb, eqb→eq}
 use Rattle.numbers.proofs.Cases.{pos-of-not-zero}
 use Rattle.numbers.proofs.Range.{each, each-at}
 use Rattle.eights.specs.Inside.{byte}
-use Rattle.eights.proofs.Laws.{byte-and, byte-zero, byte-shift}
+use Rattle.eights.proofs.Laws.{byte-and, byte-bit, byte-zero, byte-shift}
 use Rattle.block.specs.Block.{ones}
 use Rattle.block.specs.Lanes.{count, OddBytes, SomeByte}
 use Rattle.block.proofs.Bits.{common}
@@ -27,7 +27,7 @@ ones-low (suc n) a =
     ap₂ _+_ (rw add-one at (mod-mod-pow a n 1)) (ap (onesIn n) (rw add-one at (field a n 1)) ∙ ones-low n (a / 2))
 
 -- the lowest n bits, and the m above them
-ones-split : (n m a : ℕ) → onesIn (n + m) a ≡ onesIn n a + onesIn m (a / 2 ^ n)
+pub ones-split : (n m a : ℕ) → onesIn (n + m) a ≡ onesIn n a + onesIn m (a / 2 ^ n)
 unfolding onesIn
 ones-split zero m a =
     ap (λ (k : ℕ). onesIn k a) (zero-add m) ∙ sym (zero-add (onesIn m (a / 1)) ∙ ap (onesIn m) (div-one a))
@@ -64,7 +64,7 @@ lowest-bit w k h =
     ∙ ap (bitAnd (byte w k)) (eqb→eq (byte lowest k) 1 (each-at 8 (λ k. eqb (byte lowest k) 1) lowest-test k h)) ∙ and-mask (byte w k) 1
     ∙ (omega arith)
 
-ones-byte : (x k : ℕ) → ones (byte x k) ≡ onesIn 8 (x / 2 ^ (8 * k))
+pub ones-byte : (x k : ℕ) → ones (byte x k) ≡ onesIn 8 (x / 2 ^ (8 * k))
 unfolding byte
 ones-byte x k = ones-low 8 (x / 2 ^ (8 * k))
 
@@ -122,7 +122,7 @@ bytes-counted (suc m) p l h f =
 -- ---- a byte that is not 0
 
 -- what stands above the zeros at the end is odd
-trailing-odd : (d q : ℕ) → 0 < q → q < 2 ^ d → q / 2 ^ trailingZeros d q % 2 ≡ 1
+pub trailing-odd : (d q : ℕ) → 0 < q → q < 2 ^ d → q / 2 ^ trailingZeros d q % 2 ≡ 1
 unfolding trailingZeros
 trailing-odd zero q p h = absurd (omega arith)
 trailing-odd (suc d) q p h =
@@ -135,16 +135,6 @@ trailing-odd (suc d) q p h =
         ap (λ (n : ℕ). n % 2) (sym (shr-shr q 1 t ∙ ap (λ (k : ℕ). q / 2 ^ k) (one-add t))) ∙ half e
     go (suc zero) e half = ap (λ (n : ℕ). n % 2) (div-one q) ∙ e
     go (suc (suc r)) e half = absurd (omega arith)
-
--- bit e of a byte
-byte-bit : (p k e : ℕ) → e < 8 → byte p k / 2 ^ e % 2 ≡ p / 2 ^ (8 * k + e) % 2
-unfolding byte
-byte-bit p k e h =
-    let b : ℕ = p / 2 ^ (8 * k) in
-    let s : 8 ≡ 8 - e + e = omega arith in
-    let t : 8 - e ≡ 7 - e + 1 = omega arith in
-    ap (λ (n : ℕ). b % 2 ^ n / 2 ^ e % 2) s ∙ ap (λ (n : ℕ). n % 2) (field b (8 - e) e)
-    ∙ ap (λ (n : ℕ). b / 2 ^ e % 2 ^ n % 2) t ∙ mod-mod-pow (b / 2 ^ e) (7 - e) 1 ∙ ap (λ (n : ℕ). n % 2) (shr-shr p (8 * k) e)
 
 pub some-byte : (p : ℕ) → p < 18446744073709551616 → SomeByte p (trailingZeros 64 p / 8)
 some-byte p h = record { most = omega (arith, trailing-le 64 p); inside = inside; is = is }

@@ -66,7 +66,7 @@ odd-rows-count [] = refl
 odd-rows-count (x ∷ xs) =
     ap (λ (n : ℕ). ones x % 2 + n) (odd-rows-count xs) ∙ sym (count-front (length xs) (λ a. ones (getD (x ∷ xs) a 0) % 2))
 
-summed-total : (rows : List ℕ) → summed rows ≡ total (length rows) (λ a. getD rows a 0)
+pub summed-total : (rows : List ℕ) → summed rows ≡ total (length rows) (λ a. getD rows a 0)
 unfolding summed total
 summed-total [] = refl
 summed-total (x ∷ xs) = ap (bitXor x) (summed-total xs) ∙ sym (total-front (length xs) (λ a. getD (x ∷ xs) a 0))

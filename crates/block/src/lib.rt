@@ -108,7 +108,7 @@ fn eight_rows(rows: &[u8], i: usize) -> u64
 }
 
 // For each of eight bytes, whether it is odd: its halves added, and the halves of that, until one bit is left.
-fn odd_bytes(x: u64) -> u64
+pub fn odd_bytes(x: u64) -> u64
     ensures { λ r. ⌜ OddBytes x r ⌝ }
 {
     let y = x ^ (x >> 4);

@@ -36,6 +36,7 @@ use libc::STDOUT_FILENO;
 mod lines;
 mod open_trays;
 mod sheets;
+mod smudges;
 
 const SUM: u8 = 1;
 
@@ -80,6 +81,10 @@ const READ_SHEET: u8 = 20;
 const ENCODE_SHEET: u8 = 21;
 
 const OPEN_TRAY: u8 = 22;
+
+const ENCODE_SMUDGE: u8 = 23;
+
+const READ_SMUDGE: u8 = 24;
 
 // The length of a head.
 const HEAD: usize = 8;
@@ -317,6 +322,8 @@ fn hand_over(call: u8, small: u8, number: u16, input: &[u8], output: &mut [u8]) 
         READ_SHEET => sheets::read_sheet(input, output),
         ENCODE_SHEET => sheets::encode_from(input, wide(number), output),
         OPEN_TRAY => open_trays::open_tray(input, wide(number), small),
+        ENCODE_SMUDGE => smudges::encode_smudge(input, output),
+        READ_SMUDGE => smudges::read_smudge(input, output),
         _ => pass_over(),
     }
 }

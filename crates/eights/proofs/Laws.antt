@@ -1,12 +1,12 @@
 -- The bytes of a number: of bytes joined, of a shift, of bits combined; and what the code's mask and its folding say of eight of them.
 use mathlib.Core.Path.{_≡_, sym, ap, ap₂, _∙_}
 use mathlib.Core.List.{List, [], _∷_}
-use Prim.Native.Nat.{ℕ, zero, suc, _+_, _*_, _/_, _%_, _^_, _<_}
+use Prim.Native.Nat.{ℕ, zero, suc, _+_, _-_, _*_, _/_, _%_, _^_, _<_}
 use native.Mathlib.Nat.{zero-div, div-one, mul-add, mul-suc, mod-eq-of-lt}
 use native.Mathlib.Numerals.{one-add}
 use native.Mathlib.Omega.{arith}
 use lib.Arith.{digits-div, digits-mod}
-use lib.Pow.{shr-shr, shr-lt}
+use lib.Pow.{shr-shr, shr-lt, field, mod-mod-pow}
 use lib.Bits.{bitXor, bitOr, bitAnd, xor-shr, xor-mod, or-shr, or-mod, or-lt, or-comm, or-add-and, and-shr, and-mod, and-le-r, and-high}
 use lib.Dec.{T, eqb, eqb→eq}
 use lib.ListN.{getD}
@@ -17,7 +17,7 @@ use Rattle.numbers.specs.Total.{total}
 use Rattle.numbers.proofs.Xor.{xors}
 use Rattle.eights.specs.Inside.{byte, HoldsBytes, LowEight}
 
-byte-lt : (n k : ℕ) → byte n k < 256
+pub byte-lt : (n k : ℕ) → byte n k < 256
 unfolding byte
 byte-lt n k = omega arith
 
@@ -33,6 +33,16 @@ none-byte k = ap (λ (m : ℕ). m % 256) (zero-div (2 ^ (8 * k)))
 pub byte-shift : (n m k : ℕ) → byte (n / 2 ^ (8 * m)) k ≡ byte n (m + k)
 unfolding byte
 byte-shift n m k = ap (λ (d : ℕ). d % 256) (shr-shr n (8 * m) (8 * k) ∙ ap (λ (e : ℕ). n / 2 ^ e) (sym (mul-add 8 m k)))
+
+-- bit e of a byte
+pub byte-bit : (p k e : ℕ) → e < 8 → byte p k / 2 ^ e % 2 ≡ p / 2 ^ (8 * k + e) % 2
+unfolding byte
+byte-bit p k e h =
+    let b : ℕ = p / 2 ^ (8 * k) in
+    let s : 8 ≡ 8 - e + e = omega arith in
+    let t : 8 - e ≡ 7 - e + 1 = omega arith in
+    ap (λ (n : ℕ). b % 2 ^ n / 2 ^ e % 2) s ∙ ap (λ (n : ℕ). n % 2) (field b (8 - e) e)
+    ∙ ap (λ (n : ℕ). b / 2 ^ e % 2 ^ n % 2) t ∙ mod-mod-pow (b / 2 ^ e) (7 - e) 1 ∙ ap (λ (n : ℕ). n % 2) (shr-shr p (8 * k) e)
 
 -- numbers of j bytes are equal when their bytes are
 pub same-bytes : (j m n : ℕ) → m < 2 ^ (8 * j) → n < 2 ^ (8 * j) → ((k : ℕ) → k < j → byte m k ≡ byte n k) → m ≡ n

@@ -1,4 +1,4 @@
--- The laws of numbers: cases, tests over a range and over a list, the arms of a match, bits, exclusive or, also of many, and parts of a list.
+-- The laws of numbers: cases, tests over a range and over a list, the arms of a match, bits, exclusive or, also of many, maps that keep it, and parts of a list.
 pub mod Cases
 pub mod Range
 pub mod Entries
@@ -6,4 +6,5 @@ pub mod Arms
 pub mod Bits
 pub mod Xor
 pub mod Totals
+pub mod Linear
 pub mod Parts

@@ -18,9 +18,9 @@ numberOf OutputLength = 5
 numberOf NoLine = 6
 -- the line found has another number than the wanted one
 numberOf OtherNumber = 7
--- block rows outside 2..64, or data rows outside 1..63
+-- block rows outside 2..64, or data rows outside 1..63; with a smudge, not eight rows, or not seven data rows
 numberOf RowCount = 8
--- no proper block within one bit
+-- no proper block within one bit; with a smudge, none that differs inside one window of two by two cells alone
 numberOf NoBlock = 9
 -- ring reading: two or more entries in the list
 numberOf ManyStarts = 10

@@ -1,0 +1,9 @@
+-- The laws.
+pub mod Cells
+pub mod Turns
+pub mod Parities
+pub mod Windows
+pub mod Mending
+pub mod Reading
+pub mod Functions
+pub mod Encoding

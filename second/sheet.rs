@@ -51,6 +51,8 @@ pub fn rows() -> String {
         row("rows 3, 253:", "distance 1: 3 252"),
         row("rows 3, 3:", "refused 9"),
         row("rows 3, 0:", "refused 9"),
+        row("data 1 to 7 against smudges:", "131 170 129 26 7 18 5 93"),
+        row("with the window at row 4, column 3 turned:", "distance 4: 131 170 129 26 7 18 5 93"),
         row("Z with 5 wrong, radius 5:", &zero_line(5)),
         row("Z with 5 wrong, radius 4:", "refused 6"),
         row("Z with 6 wrong, radius 5:", "refused 6"),

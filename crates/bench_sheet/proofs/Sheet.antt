@@ -12,7 +12,9 @@ use Rattle.code.proofs.Lines.{unmarked}
 use Rattle.encoder.proofs.Bench.{text65, checks65, line-65, checks-65}
 use Rattle.block.specs.Bench as Block
 use Rattle.block.proofs.Bench.{bench-sheet}
-use Rattle.bench_sheet.specs.Sheet.{Z, Row, product-is, no-quotient, a-line, no-line, checks-are, one-wrong, rows-are, Wrong, Every}
+use Rattle.smudge.specs.Bench as Smudge
+use Rattle.smudge.proofs.Bench as Smudged
+use Rattle.bench_sheet.specs.Sheet.{Z, Row, product-is, no-quotient, a-line, no-line, checks-are, one-wrong, rows-are, of-smudges, Wrong, Every}
 
 abbrev pub table : List Row
 table =
@@ -27,6 +29,8 @@ table =
     ∷ rows-are (3 ∷ 253 ∷ []) (Block.read-as (3 ∷ 252 ∷ []) 1)
     ∷ rows-are (3 ∷ 3 ∷ []) (Block.refused 9)
     ∷ rows-are (3 ∷ 0 ∷ []) (Block.refused 9)
+    ∷ of-smudges (Smudge.stored-as (1 ∷ 2 ∷ 3 ∷ 4 ∷ 5 ∷ 6 ∷ 7 ∷ []) (131 ∷ 170 ∷ 129 ∷ 26 ∷ 7 ∷ 18 ∷ 5 ∷ 93 ∷ []))
+    ∷ of-smudges (Smudge.come-to (0 ∷ 0 ∷ 0 ∷ 0 ∷ 24 ∷ 24 ∷ 0 ∷ 0 ∷ []) (0 ∷ 0 ∷ 8 ∷ 2 ∷ 16 ∷ 4 ∷ 0 ∷ 0 ∷ []))
     ∷ []
 
 -- ---- the proof
@@ -95,7 +99,7 @@ starred-rows = (
                   bench-sheet .1 .0,
                   (
                     bench-sheet .1 .1 .0,
-                    (bench-sheet .1 .1 .1 .0, tt),
+                    (bench-sheet .1 .1 .1 .0, Smudged.bench-sheet),
                   ),
                 ),
               ),

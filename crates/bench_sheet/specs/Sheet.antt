@@ -8,6 +8,7 @@ use Rattle.field.specs.Promises.{Divides}
 use Rattle.code.specs.Word.{powerSum, added, marks, Line, distance}
 use Rattle.encoder.specs.Promises.{LineWith}
 use Rattle.block.specs.Bench.{Result, Gives}
+use Rattle.smudge.specs.Bench as Smudge
 
 -- the line of zero text and number 0: all 0 but for 32, 8, 1 at 52, 55, 62
 abbrev pub Z : List ℕ
@@ -29,6 +30,8 @@ pub data Row : Type 0 where
   one-wrong : List ℕ → ℕ → ℕ → Row
   -- a block's rows, and what they give
   rows-are : List ℕ → Result → Row
+  -- what a row of blocks that outlast a smudge says
+  of-smudges : Smudge.Row → Row
 
 -- S_1 by S_0 is α^n, and whatever their logarithms the rule gives the address
 pub record Wrong (w : List ℕ) (n a : ℕ) : Type 0 where
@@ -44,6 +47,7 @@ Says (no-line w d l) = (Line w → ⊥) × Line l × (distance w l ≡ d)
 Says (checks-are t n checks) = (l : List ℕ) × LineWith t n l × (drop 52 l ≡ checks)
 Says (one-wrong w n a) = Wrong w n a
 Says (rows-are rows result) = Gives rows result
+Says (of-smudges row) = Smudge.Says row
 
 -- every row of a table is true
 abbrev pub Every : List Row → Type 0

@@ -1,4 +1,5 @@
 // Runs the rows of the bench sheet in its order, and prints for each what was answered; the starred rows are proved besides, in proofs/Sheet.antt.
+use block::BlockEncoding;
 use block::BlockReading;
 use encoder::LineEncoding;
 use field::Element;
@@ -160,6 +161,10 @@ fn print_ring(title: &[u8], radius: u8) {
 fn print_block(title: &[u8], rows: &[u8], output: &mut [u8]) {
     print(title);
     let reading = block::read_block(rows, output);
+    print_reading(reading, output);
+}
+
+fn print_reading(reading: BlockReading, output: &[u8]) {
     match reading {
         BlockReading::Block { distance } => {
             print(b" distance");
@@ -193,6 +198,20 @@ fn print_starred_blocks() {
     print_block(b"rows 3, 253:", b"\x03\xfd", &mut [0u8; 2]);
     print_block(b"rows 3, 3:", b"\x03\x03", &mut [0u8; 2]);
     print_block(b"rows 3, 0:", b"\x03\x00", &mut [0u8; 2]);
+}
+
+// A block that outlasts a smudge, and the same with the four cells of a window turned.
+fn print_smudges() {
+    print(b"data 1 to 7 against smudges:");
+    let mut output = [0u8; 8];
+    let encoding = smudge::encode_smudge(b"\x01\x02\x03\x04\x05\x06\x07", &mut output);
+    match encoding {
+        BlockEncoding::Written => print_bytes(&output),
+        BlockEncoding::Refused(r) => print_refusal(r),
+    }
+    print(b"with the window at row 4, column 3 turned:");
+    let reading = smudge::read_smudge(b"\x83\xaa\x81\x1a\x1f\x0a\x05\x5d", &mut output);
+    print_reading(reading, &output);
 }
 
 fn print_damaged_lines() {
@@ -240,6 +259,7 @@ fn main() {
     print_field_rows();
     print_line_rows();
     print_starred_blocks();
+    print_smudges();
     print_damaged_lines();
     print_bounds();
     print_ring(b"ring Z, radius 3:", 3);

@@ -14,7 +14,9 @@ use Rattle.block.specs.declared.BlockEncoding.{BlockEncoding}
 use Rattle.block.specs.Block.{dataOf, Proper, distance, Near, Mendable, Sevens, Holds, OneBlock}
 use Rattle.block.specs.Even.{Even, inverted, lastInverted}
 use Rattle.block.specs.Promises.{readingNumbers, encodingNumbers, readingTests, encodingTests, ReadAs, EncodedAs, Reads, Encodes}
+use Rattle.eights.proofs.Laws.{same-bytes}
 use Rattle.block.specs.Inside.{encoded}
+use Rattle.block.specs.Lanes.{OddBytes}
 use Rattle.block.proofs.Bits.{one-bit}
 use Rattle.block.proofs.Columns.{distance-self, distance-comm, distance-set}
 use Rattle.block.proofs.Apart.{apart, near-same}
@@ -176,3 +178,9 @@ pub read-bright-even : (n : ℕ) (rows old new : List ℕ) (r : BlockReading) �
     → length old ≡ n → Reads rows old (readingNumbers r) new → (r ≡ R.Refused NoBlock) × (new ≡ old)
 read-bright-even n rows old new r least most even l six room h =
     read-even (replicate n 255) rows old new r (bright-even n least most even) (length-replicate n 255 ∙ sym l) six (room ∙ sym l) h
+
+-- ---- which of eight rows are odd
+
+-- there is one number that tells it
+pub one-odd-bytes : (x p q : ℕ) → OddBytes x p → OddBytes x q → p ≡ q
+one-odd-bytes x p q s t = same-bytes 8 p q (s .small) (t .small) (λ k h. s .at k h ∙ sym (t .at k h))

@@ -2,12 +2,12 @@
 use super::show;
 
 pub fn encode_smudge(data: &[u8], output: &mut [u8]) {
-    let answer = film::smudges::film_encode_smudge(data, output);
+    let answer = film::film_encode_smudge(data, output);
     show(b"encode_smudge", &[answer as u16], output);
 }
 
 pub fn read_smudge(rows: &[u8], output: &mut [u8]) {
-    let given = film::smudges::film_read_smudge(rows, output);
+    let given = film::film_read_smudge(rows, output);
     show(
         b"read_smudge",
         &[given.answer as u16, given.distance as u16],

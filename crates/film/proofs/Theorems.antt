@@ -36,6 +36,8 @@ use Rattle.panel.proofs.Theorems.{same-text}
 use Rattle.panel.proofs.Rings.{same-ring}
 use Rattle.block.specs.Promises as Block
 use Rattle.block.proofs.Results.{one-read-as, one-encoded-as}
+use Rattle.smudge.specs.Promises as Smudge
+use Rattle.smudge.proofs.Results as Smudged
 use Rattle.film.specs.declared.FilmElement.{FilmElement}
 use Rattle.film.specs.declared.FilmSpool.{FilmSpool}
 use Rattle.film.specs.declared.FilmChoice.{FilmChoice}
@@ -218,4 +220,18 @@ pub one-block-read : (rows old : List ℕ) (r s : FilmBlock) (x y : List ℕ) �
 unfolding Block.Reads
 one-block-read rows old r s x y p q =
     let e = one-result (Block.readingTests rows (length old)) (Block.ReadAs rows) 1 (λ _. one-read-as rows) old (blockNumbers r) (blockNumbers s) x y p q in
+    (one-block r s (e .0), e .1)
+
+-- ---- blocks that outlast a smudge
+
+pub one-smudge-encoding : (given old : List ℕ) (a b : ℕ) (x y : List ℕ) → Smudge.Encodes given old (a ∷ []) x → Smudge.Encodes given old (b ∷ []) y → (a ≡ b) × (x ≡ y)
+unfolding Smudge.Encodes
+one-smudge-encoding given old a b x y p q =
+    let e = one-result (Smudge.encodingTests given (length old)) (Smudge.EncodedAs given) 0 (λ _. Smudged.one-encoded-as given) old (a ∷ []) (b ∷ []) x y p q in
+    (ap (λ (l : List ℕ). getD l 0 0) (e .0), e .1)
+
+pub one-smudge-read : (rows old : List ℕ) (r s : FilmBlock) (x y : List ℕ) → Smudge.Reads rows old (blockNumbers r) x → Smudge.Reads rows old (blockNumbers s) y → (r ≡ s) × (x ≡ y)
+unfolding Smudge.Reads
+one-smudge-read rows old r s x y p q =
+    let e = one-result (Smudge.readingTests rows (length old)) (Smudge.ReadAs rows) 1 (λ _. Smudged.one-read-as rows) old (blockNumbers r) (blockNumbers s) x y p q in
     (one-block r s (e .0), e .1)

@@ -8,6 +8,7 @@ ghost use Rattle.line.specs.declared.Wanted.the-variants.{Any, Number};
 ghost use Rattle.blots.specs.Promises as Blots;
 ghost use Rattle.ring.specs.Promises as Ring;
 ghost use Rattle.block.specs.Promises as Block;
+ghost use Rattle.smudge.specs.Promises as Smudge;
 ghost use Rattle.scans.specs.Promises as Scans;
 ghost use Rattle.spool.specs.Promises as Spool;
 ghost use Rattle.panel.specs.Promises as Panel;
@@ -335,6 +336,36 @@ pub extern "C" fn film_read_block(rows: &[u8], out: &mut [u8]) -> FilmBlock
         BlockReading::Block { distance } => FilmBlock {
             answer: 0,
             distance: distance, // 0 or 1 bit
+        },
+        BlockReading::Refused(why) => FilmBlock {
+            answer: refusal::number(why),
+            distance: 0,
+        },
+    }
+}
+
+// Encodes a block that outlasts a smudge.
+#[no_mangle]
+pub extern "C" fn film_encode_smudge(given: &[u8], out: &mut [u8]) -> u8
+    ensures { λ r. ⌜ Smudge.Encodes (now (given .entry)) (now (out .entry)) (r ∷ []) (now (out .exit)) ⌝ }
+{
+    let encoding = smudge::encode_smudge(given, out);
+    match encoding {
+        BlockEncoding::Written => 0,
+        BlockEncoding::Refused(why) => refusal::number(why),
+    }
+}
+
+// Reads a block that may be smudged.
+#[no_mangle]
+pub extern "C" fn film_read_smudge(rows: &[u8], out: &mut [u8]) -> FilmBlock
+    ensures { λ r. ⌜ Smudge.Reads (now (rows .entry)) (now (out .entry)) (blockNumbers r) (now (out .exit)) ⌝ }
+{
+    let given = smudge::read_smudge(rows, out);
+    match given {
+        BlockReading::Block { distance } => FilmBlock {
+            answer: 0,
+            distance: distance, // 0 to 4 bits
         },
         BlockReading::Refused(why) => FilmBlock {
             answer: refusal::number(why),

@@ -1,10 +1,10 @@
 -- Maps that take exclusive ors to exclusive ors: what they are made of, and that their values at the powers of 2 fix them.
 use mathlib.Core.Path.{_≡_, refl, sym, ap, ap₂, _∙_}
-use Prim.Native.Nat.{ℕ, zero, suc, _+_, _*_, _/_, _%_, _^_, _<_}
+use Prim.Native.Nat.{ℕ, zero, suc, _*_, _/_, _%_, _^_, _<_}
 use native.Mathlib.Nat.{pow-suc, mod-lt, add-zero, one-mul, zero-mul}
 use native.Mathlib.Numerals.{one-add}
 use native.Mathlib.Omega.{arith}
-use lib.Pow.{split, shr-lt}
+use lib.Pow.{pow-pos, split, shr-lt}
 use lib.Bits.{bitXor, bitAnd, xor-self, xor-shr, xor-mod, xor-block, xor-shifted, and-shr, and-mod}
 use Rattle.numbers.proofs.Cases.{bit-cases}
 use Rattle.numbers.proofs.Bits.{same-in-all}
@@ -39,14 +39,10 @@ pub and-xor : (a b m : ℕ) → bitAnd (bitXor a b) m ≡ bitXor (bitAnd a m) (b
 and-xor a b m =
     same-in-all (bitAnd (bitXor a b) m) (bitXor (bitAnd a m) (bitAnd b m))
     (λ l.
-      and-bit (bitXor a b) m l ∙ ap (λ (x : ℕ). bitAnd x (m / 2 ^ l % 2)) (xor-bit a b l) ∙ and-xor-bits (a / 2 ^ l) (b / 2 ^ l) (m / 2 ^ l)
-      ∙ sym (xor-bit (bitAnd a m) (bitAnd b m) l ∙ ap₂ bitXor (and-bit a m l) (and-bit b m l)))
+    and-bit (bitXor a b) m l ∙ ap (λ (x : ℕ). bitAnd x (m / 2 ^ l % 2)) (xor-bit a b l) ∙ and-xor-bits (a / 2 ^ l) (b / 2 ^ l) (m / 2 ^ l)
+    ∙ sym (xor-bit (bitAnd a m) (bitAnd b m) l ∙ ap₂ bitXor (and-bit a m l) (and-bit b m l)))
 
 -- ---- what such maps are made of
-
-power-pos : (n : ℕ) → 0 < 2 ^ n
-power-pos zero = omega arith
-power-pos (suc n) = let p : 2 ^ suc n ≡ 2 ^ n * 2 = pow-suc 2 n in let h : 0 < 2 ^ n = power-pos n in omega arith
 
 pub itself : Linear (λ x. x)
 itself = record { sums = λ a b. refl }
@@ -59,7 +55,7 @@ shifted-up k =
     record {
       sums = λ a b.
           sym
-          (ap₂ bitXor (sym (add-zero (a * 2 ^ k))) (sym (add-zero (b * 2 ^ k))) ∙ xor-block k a b 0 0 (power-pos k) (power-pos k)
+          (ap₂ bitXor (sym (add-zero (a * 2 ^ k))) (sym (add-zero (b * 2 ^ k))) ∙ xor-block k a b 0 0 (pow-pos k) (pow-pos k)
           ∙ add-zero (bitXor a b * 2 ^ k));
     }
 
@@ -87,7 +83,7 @@ same-maps (suc n) f g l m h x b =
     parted f l ∙ ap₂ bitXor (top (x / 2 ^ n) (half x n b)) i ∙ sym (parted g m)
   where
     low : (x n : ℕ) → x % 2 ^ n < 2 ^ n
-    low x n = mod-lt x (power-pos n)
+    low x n = mod-lt x (pow-pos n)
 
     half : (x n : ℕ) → x < 2 ^ suc n → x / 2 ^ n < 2
     half x n b = shr-lt 1 n (rw (one-add n) b)

@@ -1,17 +1,17 @@
 -- The cells of a block: rows have the cells that they are made of, cells fix a block, and what each turn moves where.
 use mathlib.Core.Path.{_≡_, refl, sym, ap, ap₂, _∙_}
-use mathlib.Core.Bool.{Bool}
-use mathlib.Core.List.{List, [], _∷_}
+use mathlib.Core.List.{List}
 use Prim.Native.Nat.{ℕ, zero, suc, _+_, _-_, _*_, _/_, _%_, _^_, _<_}
-use native.Mathlib.Nat.{add-suc, add-zero, div-one, pow-suc}
+use native.Mathlib.Nat.{add-zero, div-one, pow-suc}
 use native.Mathlib.Omega.{arith}
 use lib.Dec.{T, eqb, eqb→eq}
-use lib.ListN.{length, getD, List·getD-eq-default}
+use lib.ListN.{length, getD}
 use lib.Seq.{ext-getD}
 use Rattle.numbers.proofs.Bits.{halved, same-bits}
 use Rattle.numbers.proofs.Cases.{bit-lt}
 use Rattle.numbers.proofs.Range.{each, each-at}
 use Rattle.block.specs.Block.{Bytes}
+use Rattle.smudge.specs.Spread.{rowTo, columnTo}
 use Rattle.smudge.specs.Smudge.{side, cell, rowOf, rowsOf, turn, upward, leftward, straightened, rightward, downward, staggered}
 
 -- ---- rows by their cells
@@ -113,16 +113,10 @@ pub straightened-cell : (rows : List ℕ) (i j : ℕ) → i < side → j < side 
 unfolding straightened
 straightened-cell rows i j hi hj = leftward-cell (upward rows) i j hi hj ∙ upward-cell rows i (columnFrom i j) hi (omega arith)
 
--- and the row and the column that a cell of the staggered block comes from
-abbrev pub rowBefore : ℕ → ℕ → ℕ
-rowBefore i j = (i + side - turn j) % side
-
-abbrev pub columnBefore : ℕ → ℕ → ℕ
-columnBefore i j = (j + side - turn (rowBefore i j)) % side
-
-pub staggered-cell : (rows : List ℕ) (i j : ℕ) → i < side → j < side → cell (staggered rows) i j ≡ cell rows (rowBefore i j) (columnBefore i j)
+-- a cell of the staggered block comes from where straightening takes it
+pub staggered-cell : (rows : List ℕ) (i j : ℕ) → i < side → j < side → cell (staggered rows) i j ≡ cell rows (rowTo i j) (columnTo i j)
 unfolding staggered
-staggered-cell rows i j hi hj = downward-cell (rightward rows) i j hi hj ∙ rightward-cell rows (rowBefore i j) j (omega arith) hj
+staggered-cell rows i j hi hj = downward-cell (rightward rows) i j hi hj ∙ rightward-cell rows (rowTo i j) j (omega arith) hj
 
 pub straightened-long : (rows : List ℕ) → length (straightened rows) ≡ side
 unfolding straightened leftward
@@ -164,27 +158,34 @@ module _ (rows : List ℕ) (long : length rows ≡ side) (bytes : Bytes rows) wh
   straightened-staggered =
       same-cells (straightened (staggered rows)) rows (straightened-long (staggered rows)) long (straightened-bytes (staggered rows)) bytes
       (λ i j hi hj.
-        straightened-cell (staggered rows) i j hi hj ∙ staggered-cell rows (rowFrom i j) (columnFrom i j) (omega arith) (omega arith)
-        ∙ ap₂ (cell rows)
-        (same-at (λ i j. rowBefore (rowFrom i j) (columnFrom i j)) (λ i j. i) tt i j hi hj)
-        (same-at (λ i j. columnBefore (rowFrom i j) (columnFrom i j)) (λ i j. j) tt i j hi hj))
+      straightened-cell (staggered rows) i j hi hj ∙ staggered-cell rows (rowFrom i j) (columnFrom i j) (omega arith) (omega arith)
+      ∙ ap₂ (cell rows)
+      (same-at (λ i j. rowTo (rowFrom i j) (columnFrom i j)) (λ i j. i) tt i j hi hj)
+      (same-at (λ i j. columnTo (rowFrom i j) (columnFrom i j)) (λ i j. j) tt i j hi hj))
 
   pub staggered-straightened : staggered (straightened rows) ≡ rows
   staggered-straightened =
       same-cells (staggered (straightened rows)) rows (staggered-long (straightened rows)) long (staggered-bytes (straightened rows)) bytes
       (λ i j hi hj.
-        staggered-cell (straightened rows) i j hi hj ∙ straightened-cell rows (rowBefore i j) (columnBefore i j) (omega arith) (omega arith)
-        ∙ ap₂ (cell rows)
-        (same-at (λ i j. rowFrom (rowBefore i j) (columnBefore i j)) (λ i j. i) tt i j hi hj)
-        (same-at (λ i j. columnFrom (rowBefore i j) (columnBefore i j)) (λ i j. j) tt i j hi hj))
+      staggered-cell (straightened rows) i j hi hj ∙ straightened-cell rows (rowTo i j) (columnTo i j) (omega arith) (omega arith)
+      ∙ ap₂ (cell rows)
+      (same-at (λ i j. rowFrom (rowTo i j) (columnTo i j)) (λ i j. i) tt i j hi hj)
+      (same-at (λ i j. columnFrom (rowTo i j) (columnTo i j)) (λ i j. j) tt i j hi hj))
+
+pub comes-to : (rows : List ℕ) (i j : ℕ) → i < side → j < side → cell (straightened rows) (rowTo i j) (columnTo i j) ≡ cell rows i j
+comes-to rows i j hi hj =
+    straightened-cell rows (rowTo i j) (columnTo i j) (omega arith) (omega arith)
+    ∙ ap₂ (cell rows)
+    (same-at (λ i j. rowFrom (rowTo i j) (columnTo i j)) (λ i j. i) tt i j hi hj)
+    (same-at (λ i j. columnFrom (rowTo i j) (columnTo i j)) (λ i j. j) tt i j hi hj)
 
 pub turns-commute : (rows : List ℕ) → leftward (upward rows) ≡ upward (leftward rows)
 unfolding straightened
 turns-commute rows =
     same-cells (leftward (upward rows)) (upward (leftward rows)) (straightened-long rows) (upward-long (leftward rows)) (straightened-bytes rows) (upward-bytes (leftward rows))
     (λ i j hi hj.
-      straightened-cell rows i j hi hj
-      ∙ ap₂ (cell rows)
-        (same-at (λ i j. rowFrom i j) (λ i j. (i + turn j) % side) tt i j hi hj)
-        (same-at (λ i j. columnFrom i j) (λ i j. (j + turn ((i + turn j) % side)) % side) tt i j hi hj)
-      ∙ sym (upward-cell (leftward rows) i j hi hj ∙ leftward-cell rows ((i + turn j) % side) j (omega arith) hj))
+    straightened-cell rows i j hi hj
+    ∙ ap₂ (cell rows)
+    (same-at (λ i j. rowFrom i j) (λ i j. (i + turn j) % side) tt i j hi hj)
+    (same-at (λ i j. columnFrom i j) (λ i j. (j + turn ((i + turn j) % side)) % side) tt i j hi hj)
+    ∙ sym (upward-cell (leftward rows) i j hi hj ∙ leftward-cell rows ((i + turn j) % side) j (omega arith) hj))

@@ -1,22 +1,28 @@
 -- Each way in which encoding ends: as encoding a block does, and then staggered.
-use mathlib.Core.Path.{_≡_, refl, sym, ap, _∙_}
-use mathlib.Core.List.{List, [], _∷_, _++_, map}
-use Prim.Native.Nat.{ℕ, zero, suc, _+_, _-_, _≤_}
+use mathlib.Core.Path.{_≡_, refl, ap, _∙_}
+use mathlib.Core.List.{List, [], _∷_}
+use Prim.Native.Nat.{ℕ, zero, suc, _+_, _-_}
 use native.Mathlib.Omega.{arith}
 use lib.ListN.{length, length-append, length-map}
 use Rattle.refusal.specs.declared.Refusal.{Refusal}
 use Rattle.refusal.specs.declared.Refusal.the-variants.{OutputLength}
 use Rattle.refusal.specs.Number.{numberOf}
-use Rattle.refusal.specs.Promise.{Test, _else_, Answer, Leaves}
+use Rattle.refusal.specs.Promise.{_else_, Answer, Leaves}
 use Rattle.refusal.proofs.Laws.{refusal-positive}
-use Rattle.refusal.proofs.Ladder.{No, refuses, refuses-too}
+use Rattle.refusal.proofs.Ladder.{refuses}
 use Rattle.refusal.proofs.Answers.{Alike, same-test, both-hold, alike-answer}
-use Rattle.block.specs.Block.{Sevens, Holds}
+use Rattle.block.specs.Block.{Holds}
 use Rattle.block.specs.Inside.{encoded, checked, withChecks}
 use Rattle.block.specs.Promises as Block
 use Rattle.block.proofs.Encoding.{holds-encoded}
-use Rattle.smudge.specs.Smudge.{side, staggered, Records}
+use Rattle.smudge.specs.Smudge.{side, staggered}
 use Rattle.smudge.specs.Promises.{encodingTests, EncodedAs, Encodes}
+
+-- the block with seven data rows has eight
+pub plain-long : (given plain : List ℕ) → length given ≡ side - 1 → Holds given plain → length plain ≡ side
+unfolding encoded
+plain-long given plain seven h =
+    ap length (holds-encoded given plain h) ∙ length-append (withChecks given) (_ ∷ []) ∙ ap (λ (n : ℕ). n + 1) (length-map given checked ∙ seven)
 
 module _ (given old : List ℕ) where
   -- not seven data rows
@@ -36,10 +42,8 @@ module _ (given old : List ℕ) where
 
     -- a block that was written has eight rows
     pub eight-written : (mid : List ℕ) → Block.Encodes given old (0 ∷ []) mid → length mid ≡ side
-    unfolding Block.Encodes encoded
-    eight-written mid p =
-        ap length (holds-encoded given mid (p .1 .0))
-        ∙ length-append (withChecks given) (_ ∷ []) ∙ ap (λ (n : ℕ). n + 1) (length-map given checked ∙ seven)
+    unfolding Block.Encodes
+    eight-written mid p = plain-long given mid seven (p .1 .0)
 
     pub staggered-encodes : (mid new : List ℕ) → Block.Encodes given old (0 ∷ []) mid → new ≡ staggered mid → Encodes given old (0 ∷ []) new
     unfolding Block.Encodes Encodes

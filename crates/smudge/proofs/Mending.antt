@@ -1,9 +1,9 @@
 -- What a smudge did is found from the parities: where some window serves, the block is the rows with what was found taken off; and what is found lies in a window.
 use mathlib.Core.Path.{_≡_, refl, sym, ap, ap₂, subst, _∙_}
 use mathlib.Core.Bool.{Bool, true, false}
-use mathlib.Core.List.{List, [], _∷_}
+use mathlib.Core.List.{List}
 use mathlib.Core.Logic.{⊎-elim}
-use Prim.Native.Nat.{ℕ, zero, suc, _+_, _-_, _*_, _/_, _%_, _^_, _<_, _≤_}
+use Prim.Native.Nat.{ℕ, zero, suc, _+_, _*_, _/_, _%_, _^_, _<_, _≤_}
 use native.Mathlib.Nat.{eq-or-lt-of-le, zero-add, zero-div, zero-lt-suc}
 use native.Mathlib.Omega.{arith}
 use lib.Bits.{bitXor, bitAnd, xor-comm, xor-lt, xor-self, xor-zero-r, and-le-l, and-le-r, and-zero-r}
@@ -11,21 +11,21 @@ use lib.Count.{trailingZeros, trailing-le}
 use lib.Dec.{T, eqb, leb, leb→le}
 use lib.ListN.{length, getD}
 use Rattle.numbers.proofs.Bits.{same-bits}
-use Rattle.numbers.proofs.Cases.{bit-cases, bit-lt}
+use Rattle.numbers.proofs.Cases.{bit-cases}
 use Rattle.numbers.proofs.Range.{both, both-left, both-right, each, each-at}
 use Rattle.numbers.proofs.Linear.{xor-bit, and-bit}
-use Rattle.numbers.proofs.Xor.{xor-undo, xor-twice}
+use Rattle.numbers.proofs.Xor.{xor-undo}
 use Rattle.eights.specs.Inside.{HoldsBytes, eightFrom}
 use Rattle.eights.proofs.Laws.{eight-holds}
 use Rattle.eights.proofs.Loops.{holds-at}
 use Rattle.block.specs.Block.{Bytes, ones}
 use Rattle.block.proofs.Lanes.{trailing-odd}
-use Rattle.smudge.specs.Smudge.{side, cell, Stored, Window, Inside, Smudged, Mendable}
+use Rattle.smudge.specs.Smudge.{side, cell, Window, Inside, Smudged}
 use Rattle.smudge.specs.Inside.{oddRows, wrongColumns, Sound, smudgeIn, firstCells, holding, windowsWith, firstOf, firstWith, smudgeFor, crossings, rowsIn}
 use Rattle.smudge.proofs.Cells.{lowestEight, lowest-long, lowest-bytes, lowest-cell}
-use Rattle.smudge.proofs.Turns.{bitOf, InOne, in-bytes, in-cell, in-rows, one-block, one-number}
+use Rattle.smudge.proofs.Turns.{bitOf, InOne, in-cell, in-rows, one-block}
 use Rattle.smudge.proofs.Parities.{stored-sound, sound-stored, rows-damaged, columns-damaged, columns}
-use Rattle.smudge.proofs.Windows.{cellsOf, none-outside, outside-none, inside-found}
+use Rattle.smudge.proofs.Windows.{cellsOf, none-outside, outside-none, inside-found, inside-few}
 
 -- ---- every block of eight rows is in a number
 
@@ -33,13 +33,13 @@ pub in-eight : (rows : List ℕ) (x : ℕ) → length rows ≡ side → x < 2 ^ 
 in-eight rows x l h s =
     record { long = l; fits = h; at = λ k b. holds-at rows 0 x s k b ∙ ap (λ (a : ℕ). getD rows a 0) (zero-add k) }
 
-numberOf : List ℕ → ℕ
+unfoldable pub numberOf : List ℕ → ℕ
 numberOf rows =
     getD rows 0 0 + getD rows 1 0 * 256 + getD rows 2 0 * 65536 + getD rows 3 0 * 16777216 + getD rows 4 0 * 4294967296 + getD rows 5 0 * 1099511627776
     + getD rows 6 0 * 281474976710656
     + getD rows 7 0 * 72057594037927936
 
-number-in : (rows : List ℕ) → length rows ≡ side → Bytes rows → InOne rows (numberOf rows)
+pub number-in : (rows : List ℕ) → length rows ≡ side → Bytes rows → InOne rows (numberOf rows)
 unfolding numberOf
 number-in rows l b =
     in-eight rows (numberOf rows) l (omega (arith, b 0, b 1, b 2, b 3, b 4, b 5, b 6, b 7))
@@ -56,10 +56,10 @@ module _ (rows block : List ℕ) (x y : ℕ) (s : InOne rows x) (t : InOne block
   differs-inside =
       same-bits 64 (bitAnd d w) d (omega (arith, and-le-l d w, d-lt)) d-lt
       (λ l h.
-        let i : ℕ = l / 8 in
-        let j : ℕ = l % 8 in
-        let e : bitOf i j ≡ l = omega arith in
-        ap (λ (n : ℕ). bitAnd d w / 2 ^ n % 2) (sym e) ∙ at i j (omega arith) (omega arith) ∙ ap (λ (n : ℕ). d / 2 ^ n % 2) e)
+      let i : ℕ = l / 8 in
+      let j : ℕ = l % 8 in
+      let e : bitOf i j ≡ l = omega arith in
+      ap (λ (n : ℕ). bitAnd d w / 2 ^ n % 2) (sym e) ∙ at i j (omega arith) (omega arith) ∙ ap (λ (n : ℕ). d / 2 ^ n % 2) e)
     where
       w : ℕ
       w = cellsOf (m .row) (m .column)
@@ -93,6 +93,11 @@ module _ (rows block : List ℕ) (x y : ℕ) (s : InOne rows x) (t : InOne block
       ap₂ smudgeFor (ap oddRows e ∙ rows-damaged y d n) (ap wrongColumns e ∙ columns-damaged y d n)
       ∙ inside-found (m .row) (m .column) d (omega (arith, m .window .rows)) (omega (arith, m .window .columns)) (xor-lt 64 x y (s .fits) (t .fits)) differs-inside
 
+  -- in at most four cells
+  few-cells : lib.Count.ones d ≤ 4
+  few-cells =
+      inside-few (m .row) (m .column) d (omega (arith, m .window .rows)) (omega (arith, m .window .columns)) (xor-lt 64 x y (s .fits) (t .fits)) differs-inside
+
 -- the number that is left when what was found is taken off
 abbrev pub mended : ℕ → ℕ
 mended x = bitXor x (smudgeIn x)
@@ -105,6 +110,12 @@ module _ (rows : List ℕ) (x : ℕ) (s : InOne rows x) where
       let t : InOne block y = number-in block (m .stored .long) (m .stored .bytes) in
       let e : y ≡ mended x = sym (xor-undo x y) ∙ ap (bitXor x) (sym (difference-found rows block x y s t m)) in
       (rw e at t, rw e at (stored-sound block y t (m .stored)))
+
+  pub smudge-few : (block : List ℕ) → Smudged rows block → lib.Count.ones (smudgeIn x) ≤ 4
+  smudge-few block m =
+      let y : ℕ = numberOf block in
+      let t : InOne block y = number-in block (m .stored .long) (m .stored .bytes) in
+      rw (difference-found rows block x y s t m) (few-cells rows block x y s t m)
 
 -- so there is never a second: rows of more than eight bits have the cells of their lowest eight
 pub never-second : (rows a b : List ℕ) → Smudged rows a → Smudged rows b → a ≡ b

@@ -1,5 +1,5 @@
 -- The parities of a block in one number: they keep exclusive ors, and a stored block is one that has none wrong.
-use mathlib.Core.Path.{_≡_, refl, sym, ap, ap₂, _∙_}
+use mathlib.Core.Path.{_≡_, refl, sym, ap, _∙_}
 use mathlib.Core.List.{List}
 use Prim.Native.Nat.{ℕ, _/_, _%_, _^_, _<_, _≤_}
 use native.Mathlib.Decide.{decLt}
@@ -13,15 +13,16 @@ use Rattle.numbers.proofs.Totals.{total-same, total-xor}
 use Rattle.numbers.proofs.Linear.{Linear, itself, shifted-down, masked, added, after}
 use Rattle.eights.specs.Inside.{byte}
 use Rattle.eights.proofs.Laws.{byte-xor, none-byte, same-bytes}
-use Rattle.block.specs.Block.{Bytes, ones, Proper}
+use Rattle.block.specs.Block.{ones, Proper}
 use Rattle.block.specs.Inside.{summed, wanted}
 use Rattle.block.specs.Lanes.{OddBytes}
 use Rattle.block.proofs.Columns.{even-none, proper-summed, is-proper}
 use Rattle.block.proofs.Lanes.{odd-bytes}
+use Rattle.block.proofs.Theorems.{one-odd-bytes}
 use Rattle.block.proofs.Loops.{summed-total}
-use Rattle.smudge.specs.Smudge.{side, straightened, Stored}
+use Rattle.smudge.specs.Smudge.{straightened, Stored}
 use Rattle.smudge.specs.Inside.{lowest, folded, straight, oddBytes, oddRows, wrongColumns, Sound}
-use Rattle.smudge.proofs.Turns.{InOne, in-bytes, in-straight, straight-linear, straight-lt}
+use Rattle.smudge.proofs.Turns.{InOne, in-bytes, in-straight, straight-linear}
 
 -- ---- they keep exclusive ors
 
@@ -54,9 +55,7 @@ columns-linear = after (λ x. total 8 (byte x)) straight total-linear straight-l
 
 pub odd-is : (x p : ℕ) → OddBytes x p → p ≡ oddBytes x
 unfolding oddBytes
-odd-is x p o =
-    let q : OddBytes x (oddBytes x) = odd-bytes x _ _ _ refl refl refl in
-    same-bytes 8 p (oddBytes x) (o .small) (q .small) (λ k h. o .at k h ∙ sym (q .at k h))
+odd-is x p o = one-odd-bytes x p (oddBytes x) o (odd-bytes x _ _ _ refl refl refl)
 
 odd-at : (x k : ℕ) → k < 8 → byte (oddBytes x) k ≡ ones (byte x k) % 2
 unfolding oddBytes
@@ -79,7 +78,7 @@ module _ (rows : List ℕ) (z : ℕ) (s : InOne rows z) where
   proper-none : Proper rows → (oddBytes z ≡ 0) × (total 8 (byte z) ≡ wanted)
   proper-none p = (
     same-bytes 8 (oddBytes z) 0 (omega (arith, odd-most z)) (omega arith)
-    (λ k h. odd-at z k h ∙ ap (λ (m : ℕ). ones m % 2) (s .at k h) ∙ p .even k ∙ sym (none-byte k)),
+        (λ k h. odd-at z k h ∙ ap (λ (m : ℕ). ones m % 2) (s .at k h) ∙ p .even k ∙ sym (none-byte k)),
     sym summed-in ∙ proper-summed rows p,
   )
 

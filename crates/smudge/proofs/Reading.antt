@@ -2,7 +2,7 @@
 use mathlib.Core.Path.{_≡_, refl, sym, ap, ap₂, _∙_}
 use mathlib.Core.Bool.{Bool, true, false, not}
 use mathlib.Core.List.{List, [], _∷_}
-use Prim.Native.Nat.{ℕ, zero, suc, _+_, _*_, _/_, _%_, _^_, _<_}
+use Prim.Native.Nat.{ℕ, zero, suc, _+_, _*_, _^_, _<_}
 use native.Mathlib.Nat.{mul-suc}
 use native.Mathlib.Omega.{arith}
 use lib.Bits.{bitXor, xor-zero-r}
@@ -22,6 +22,7 @@ use Rattle.smudge.specs.Smudge.{side, Smudged}
 use Rattle.smudge.specs.Promises.{readingTests, ReadAs, Reads}
 use Rattle.smudge.specs.Inside.{oddRows, wrongColumns, Sound, smudgeIn, rowsIn}
 use Rattle.smudge.proofs.Turns.{InOne, in-rows, one-block}
+use Rattle.smudge.proofs.Windows.{none-turned}
 use Rattle.smudge.proofs.Mending.{InWindow, smudged-mended, nothing-window, found-in-window, clean-smudged}
 
 -- ---- the distance is the count of the cells that were turned
@@ -45,14 +46,10 @@ eight-apart x p =
     omega
     (arith, apart-is x p 0, apart-is x p 1, apart-is x p 2, apart-is x p 3, apart-is x p 4, apart-is x p 5, apart-is x p 6, apart-is x p 7)
 
-turned-cells : (rows : List ℕ) (x p : ℕ) → InOne rows x → p < 2 ^ 64 → lib.Count.ones p ≡ distance rows (rowsIn (bitXor x p))
+pub turned-cells : (rows : List ℕ) (x p : ℕ) → InOne rows x → p < 2 ^ 64 → lib.Count.ones p ≡ distance rows (rowsIn (bitXor x p))
 turned-cells rows x p s h =
     lowest-ones 64 p h ∙ ones-bytes 8 p ∙ sym (eight-apart x p)
     ∙ ap (λ (l : List ℕ). distance l (rowsIn (bitXor x p))) (one-block (rowsIn x) rows x (in-rows x (s .fits)) s)
-
-none-turned : lib.Count.ones 0 ≡ 0
-unfolding lib.Count.ones
-none-turned = refl
 
 -- ---- each way in which reading ends
 
@@ -88,5 +85,5 @@ module _ (rows old : List ℕ) (x : ℕ) (s : InOne rows x) (room : length old �
         (given (s .long), (given room, record { not = λ m. v .fails (not-true b e) (rw (← found) at (smudged-mended rows x s (m .0) (m .1) .1)) }))
 
     -- what was found leaves nothing wrong
-    pub read-mended : (new : List ℕ) → not b ≡ false → new ≡ rowsIn (bitXor x p) → Reads rows old (0 ∷ lib.Count.ones p ∷ []) new
-    read-mended new e w = rw w (taken p h (rw (← found) at (found-in-window (oddRows x) (wrongColumns x))) (v .holds (not-false b e)))
+    pub read-mended : (new : List ℕ) (d : ℕ) → not b ≡ false → new ≡ rowsIn (bitXor x p) → d ≡ lib.Count.ones p → Reads rows old (0 ∷ d ∷ []) new
+    read-mended new d e w q = rw (w, q) (taken p h (rw (← found) at (found-in-window (oddRows x) (wrongColumns x))) (v .holds (not-false b e)))

@@ -1,7 +1,7 @@
 -- The turns of a block in one number: they keep exclusive ors, and move every cell as the definitions do.
-use mathlib.Core.Path.{_≡_, refl, sym, ap, ap₂, _∙_}
+use mathlib.Core.Path.{_≡_, refl, sym, ap, _∙_}
 use mathlib.Core.Bool.{Bool}
-use mathlib.Core.List.{List, [], _∷_}
+use mathlib.Core.List.{List}
 use Prim.Native.Nat.{ℕ, zero, suc, _+_, _*_, _/_, _%_, _^_, _<_}
 use native.Mathlib.Nat.{zero-lt-suc}
 use native.Mathlib.Decide.{decLt}
@@ -10,17 +10,16 @@ use lib.Dec.{T, eqb, eqb→eq}
 use lib.Bits.{bitXor, bitAnd, xor-lt, and-le-r}
 use lib.ListN.{length, getD, List·getD-eq-default}
 use lib.Seq.{ext-getD}
-use Rattle.numbers.specs.Total.{total}
 use Rattle.numbers.proofs.Bits.{same-bits}
 use Rattle.numbers.proofs.Range.{each, each-at}
-use Rattle.numbers.proofs.Totals.{total-same, total-xor}
-use Rattle.numbers.proofs.Linear.{Linear, itself, shifted-down, shifted-up, lowest, masked, added, after, same-maps}
+use Rattle.numbers.proofs.Linear.{Linear, shifted-down, shifted-up, lowest, masked, added, after, same-maps}
 use Rattle.eights.specs.Inside.{byte}
-use Rattle.eights.proofs.Laws.{byte-lt, byte-bit, byte-xor, same-bytes}
+use Rattle.eights.proofs.Laws.{byte-lt, byte-bit}
 use Rattle.block.specs.Block.{Bytes}
+use Rattle.smudge.specs.Spread.{rowTo, columnTo}
 use Rattle.smudge.specs.Smudge.{side, cell, straightened, staggered}
-use Rattle.smudge.specs.Inside.{evenColumns, oddColumns, evenRows, sixOfOddRows, twoOfOddRows, up, left, straight, right, down, stagger, oddBytes, rowsIn}
-use Rattle.smudge.proofs.Cells.{rowFrom, columnFrom, rowBefore, columnBefore, straightened-cell, straightened-long, straightened-bytes, staggered-cell, staggered-long, staggered-bytes}
+use Rattle.smudge.specs.Inside.{evenColumns, oddColumns, evenRows, sixOfOddRows, twoOfOddRows, up, left, straight, right, down, stagger, rowsIn}
+use Rattle.smudge.proofs.Cells.{rowFrom, columnFrom, straightened-cell, straightened-long, straightened-bytes, staggered-cell, staggered-long, staggered-bytes}
 
 -- ---- they keep exclusive ors
 
@@ -101,21 +100,21 @@ moves f r c l t x h i j hi hj =
     same-maps 64 (λ x. f x / 2 ^ bitOf i j % 2) (λ x. x / 2 ^ bitOf (r i j) (c i j) % 2) (after (λ x. x / 2 ^ bitOf i j % 2) f (bit-linear (bitOf i j)) l)
     (bit-linear (bitOf (r i j) (c i j)))
     (λ k b.
-      eqb→eq (f (2 ^ k) / 2 ^ bitOf i j % 2) (2 ^ k / 2 ^ bitOf (r i j) (c i j) % 2)
-      (each-at side (λ j. eqb (f (2 ^ k) / 2 ^ bitOf i j % 2) (2 ^ k / 2 ^ bitOf (r i j) (c i j) % 2))
-      (each-at side (λ i. each side (λ j. eqb (f (2 ^ k) / 2 ^ bitOf i j % 2) (2 ^ k / 2 ^ bitOf (r i j) (c i j) % 2)))
-      (each-at 64 (λ k. agrees r c (f (2 ^ k)) (2 ^ k)) t k b)
-      i
-      hi)
-      j
-      hj))
+    eqb→eq (f (2 ^ k) / 2 ^ bitOf i j % 2) (2 ^ k / 2 ^ bitOf (r i j) (c i j) % 2)
+    (each-at side (λ j. eqb (f (2 ^ k) / 2 ^ bitOf i j % 2) (2 ^ k / 2 ^ bitOf (r i j) (c i j) % 2))
+    (each-at side (λ i. each side (λ j. eqb (f (2 ^ k) / 2 ^ bitOf i j % 2) (2 ^ k / 2 ^ bitOf (r i j) (c i j) % 2)))
+    (each-at 64 (λ k. agrees r c (f (2 ^ k)) (2 ^ k)) t k b)
+    i
+    hi)
+    j
+    hj))
     x h
 
 straight-moves : Moves straight rowFrom columnFrom
 unfolding straight left up
 straight-moves = tt
 
-stagger-moves : Moves stagger rowBefore columnBefore
+stagger-moves : Moves stagger rowTo columnTo
 unfolding stagger down right
 stagger-moves = tt
 
@@ -166,20 +165,16 @@ pub one-block : (a b : List ℕ) (x : ℕ) → InOne a x → InOne b x → a ≡
 one-block a b x s t =
     ext-getD 0 a b (s .long ∙ sym (t .long)) (λ i h. let l : i < side = rw (s .long) at h in sym (s .at i l) ∙ t .at i l)
 
--- and a block is held by one number
-pub one-number : (rows : List ℕ) (x y : ℕ) → InOne rows x → InOne rows y → x ≡ y
-one-number rows x y s t = same-bytes 8 x y (s .fits) (t .fits) (λ k h. s .at k h ∙ sym (t .at k h))
-
 pub in-straight : (rows : List ℕ) (x : ℕ) → InOne rows x → InOne (straightened rows) (straight x)
 in-straight rows x s =
     from-cells (straightened rows) (straight x) (straightened-long rows) (straightened-bytes rows) (straight-lt x)
     (λ i j hi hj.
-      straightened-cell rows i j hi hj ∙ in-cell rows x s (rowFrom i j) (columnFrom i j) (omega arith) (omega arith)
-      ∙ sym (moves straight rowFrom columnFrom straight-linear straight-moves x (s .fits) i j hi hj))
+    straightened-cell rows i j hi hj ∙ in-cell rows x s (rowFrom i j) (columnFrom i j) (omega arith) (omega arith)
+    ∙ sym (moves straight rowFrom columnFrom straight-linear straight-moves x (s .fits) i j hi hj))
 
 pub in-stagger : (rows : List ℕ) (x : ℕ) → InOne rows x → InOne (staggered rows) (stagger x)
 in-stagger rows x s =
     from-cells (staggered rows) (stagger x) (staggered-long rows) (staggered-bytes rows) (stagger-lt x)
     (λ i j hi hj.
-      staggered-cell rows i j hi hj ∙ in-cell rows x s (rowBefore i j) (columnBefore i j) (omega arith) (omega arith)
-      ∙ sym (moves stagger rowBefore columnBefore stagger-linear stagger-moves x (s .fits) i j hi hj))
+    staggered-cell rows i j hi hj ∙ in-cell rows x s (rowTo i j) (columnTo i j) (omega arith) (omega arith)
+    ∙ sym (moves stagger rowTo columnTo stagger-linear stagger-moves x (s .fits) i j hi hj))

@@ -1,25 +1,26 @@
 -- Windows in one number: which cells a window has, the sixteen ways to fill it, and that each is found again from the parities that it turns.
-use mathlib.Core.Path.{_≡_, refl, sym, ap, ap₂, subst, _∙_}
+use mathlib.Core.Path.{_≡_, refl, sym, ap, _∙_}
 use mathlib.Core.Bool.{Bool, true, false, cond}
-use mathlib.Core.Logic.{⊎-elim}
-use Prim.Native.Nat.{ℕ, zero, suc, _+_, _*_, _/_, _%_, _^_, _<_, _≤_}
-use native.Mathlib.Nat.{eq-or-lt-of-le}
+use Prim.Native.Nat.{ℕ, _+_, _*_, _/_, _%_, _^_, _<_, _≤_}
+use native.Mathlib.Nat.{add-zero}
 use native.Mathlib.Omega.{arith}
 use lib.Dec.{T, eqb, eqb→eq, leb, leb→le, le→leb}
-use lib.Bits.{bitXor, bitAnd, and-comm, and-zero-l, xor-comm, xor-zero-r}
-use lib.Count.{trailingZeros, trailing-le}
-use Rattle.numbers.proofs.Bits.{same-bits}
-use Rattle.numbers.proofs.Cases.{bit-cases, bit-lt}
+use lib.Bits.{bitXor, bitAnd}
+use lib.Count.{trailingZeros, ones-cat}
+use lib.Pow.{pow-pos}
 use Rattle.numbers.proofs.Range.{both, both-left, both-right, each, each-at}
-use Rattle.numbers.proofs.Linear.{Linear, shifted-down, shifted-up, lowest, masked, added, after, same-maps, and-bit}
-use Rattle.block.proofs.Lanes.{trailing-odd}
+use Rattle.numbers.proofs.Linear.{Linear, shifted-down, shifted-up, lowest, masked, added, after, same-maps}
 use Rattle.smudge.specs.Smudge.{side, Window, Inside}
 use lib.Count.{onesIn}
 use Rattle.numbers.specs.Total.{total}
 use Rattle.eights.specs.Inside.{byte}
-use Rattle.smudge.specs.Inside.{up, left, straight, right, down, stagger, oddBytes, oddRows, crossings, firstCells, holding, windowsWith, firstOf, firstWith, smudgeFor}
+use Rattle.smudge.specs.Inside.{up, left, straight, right, down, stagger, oddBytes, oddRows, crossings, holding, windowsWith, firstOf, firstWith, smudgeFor}
 use Rattle.smudge.proofs.Parities.{columns}
 use Rattle.smudge.proofs.Turns.{bitOf}
+
+pub none-turned : lib.Count.ones 0 ≡ 0
+unfolding lib.Count.ones
+none-turned = refl
 
 -- the cells of the window at (r, c)
 abbrev pub cellsOf : ℕ → ℕ → ℕ
@@ -118,14 +119,14 @@ window-filled : (r c : ℕ) → r < 7 → c < 7 → (x : ℕ) → x < 2 ^ 64 →
 window-filled r c hr hc =
     same-maps 64 (λ x. bitAnd x (cellsOf r c)) (inWindow (bitOf r c)) (masked (cellsOf r c)) (in-window-linear (bitOf r c))
     (λ k h.
-      eqb→eq (bitAnd (2 ^ k) (cellsOf r c)) (inWindow (bitOf r c) (2 ^ k))
-      (each-at 64 (λ k. eqb (bitAnd (2 ^ k) (cellsOf r c)) (inWindow (bitOf r c) (2 ^ k)))
-      (each-at 7 (λ c. each 64 (λ k. eqb (bitAnd (2 ^ k) (cellsOf r c)) (inWindow (bitOf r c) (2 ^ k))))
-      (each-at 7 (λ r. each 7 (λ c. each 64 (λ k. eqb (bitAnd (2 ^ k) (cellsOf r c)) (inWindow (bitOf r c) (2 ^ k))))) window-test r hr)
-      c
-      hc)
-      k
-      h))
+    eqb→eq (bitAnd (2 ^ k) (cellsOf r c)) (inWindow (bitOf r c) (2 ^ k))
+    (each-at 64 (λ k. eqb (bitAnd (2 ^ k) (cellsOf r c)) (inWindow (bitOf r c) (2 ^ k)))
+    (each-at 7 (λ c. each 64 (λ k. eqb (bitAnd (2 ^ k) (cellsOf r c)) (inWindow (bitOf r c) (2 ^ k))))
+    (each-at 7 (λ r. each 7 (λ c. each 64 (λ k. eqb (bitAnd (2 ^ k) (cellsOf r c)) (inWindow (bitOf r c) (2 ^ k))))) window-test r hr)
+    c
+    hc)
+    k
+    h))
 
 -- ---- each of them is found again from its parities
 
@@ -163,3 +164,31 @@ inside-found r c p hr hc h e =
     ap (λ (q : ℕ). smudgeFor (oddRows q) (columns q)) f
     ∙ found-again r c (p / 2 ^ bitOf r c % 4) (p / 2 ^ bitOf r c / 256 % 4) hr hc (omega arith) (omega arith)
     ∙ sym f
+
+-- ---- and has at most four cells
+
+few-test : T (each 4 (λ a. each 4 (λ b. leb (lib.Count.ones (bitXor a (b * 256))) 4)))
+unfolding lib.Count.ones
+few-test = tt
+
+pub inside-few : (r c p : ℕ) → r < 7 → c < 7 → p < 2 ^ 64 → bitAnd p (cellsOf r c) ≡ p → lib.Count.ones p ≤ 4
+inside-few r c p hr hc h e =
+    let t : ℕ = bitOf r c in
+    let a : ℕ = p / 2 ^ t % 4 in
+    let b : ℕ = p / 2 ^ t / 256 % 4 in
+    let f : p ≡ filled t a b = sym e ∙ window-filled r c hr hc p h in
+    let few : lib.Count.ones (bitXor a (b * 256)) ≤ 4 =
+    leb→le (lib.Count.ones (bitXor a (b * 256))) 4
+    (each-at 4 (λ b. leb (lib.Count.ones (bitXor a (b * 256))) 4)
+    (each-at 4 (λ a. each 4 (λ b. leb (lib.Count.ones (bitXor a (b * 256))) 4)) few-test a (omega arith))
+    b
+    (omega arith))
+    in
+    let shifted : lib.Count.ones (filled t a b) ≡ lib.Count.ones (bitXor a (b * 256)) + lib.Count.ones 0 =
+    ap lib.Count.ones (sym (add-zero (filled t a b))) ∙ ones-cat t (bitXor a (b * 256)) 0 (pow-pos t)
+    in
+    let none : lib.Count.ones 0 ≡ 0 = none-turned in
+    rw (← f) at (omega-le shifted none few)
+  where
+    omega-le : {x y z : ℕ} → x ≡ y + z → z ≡ 0 → y ≤ 4 → x ≤ 4
+    omega-le e f l = omega arith

@@ -1,7 +1,7 @@
 -- A block in one number, the cell in row i and column j at bit 8 i + j: what the functions inside this crate promise each other; no public promise rests on it.
 use mathlib.Core.Path.{_≡_}
 use mathlib.Core.List.{List, [], _∷_}
-use Prim.Native.Nat.{ℕ, zero, suc, _+_, _*_, _/_, _%_, _^_, _≤_}
+use Prim.Native.Nat.{ℕ, zero, suc, _+_, _*_, _/_, _%_, _^_}
 use lib.Bits.{bitAnd, bitOr, bitXor}
 use lib.Count.{trailingZeros}
 use Rattle.numbers.specs.Total.{total}
@@ -82,7 +82,7 @@ crossings odd wrong = stagger (bitAnd (odd * 255) (wrong * lowest))
 abbrev pub firstCells : ℕ
 firstCells = 35887507618889599
 
--- where four numbers together hold n ones or more, n from 1 to 4
+-- where four numbers together hold n ones, n from 1 to 4; where they hold more it may tell so too
 unfoldable pub holding : ℕ → ℕ → ℕ → ℕ → ℕ → ℕ
 holding zero a b c d = 0
 holding (suc zero) a b c d = bitOr (bitOr a b) (bitOr c d)

@@ -1,6 +1,7 @@
-// Blocks that outlast a smudge: reading a stored block of which one window is smudged, and encoding one. The eight rows are one number, the cell in row i and column j at bit 8 i + j.
+// Blocks that outlast a smudge: reading a stored block of which one window may be smudged, and encoding one. Inside, the eight rows are one number, the cell in
+// row i and column j at bit 8 i + j.
 ghost use mathlib.Core.Path.{_≡_};
-ghost use Prim.Native.Nat.{_≤_};
+ghost use lib.Count.{ones};
 ghost use lib.ListN.{length};
 ghost use Rattle.eights.specs.Inside.{HoldsBytes, eightFrom};
 ghost use Rattle.block.specs.Promises.{readingNumbers, encodingNumbers};
@@ -12,31 +13,46 @@ use block::BlockEncoding;
 use block::BlockReading;
 use refusal::Refusal;
 
-// Rows of a stored block, and data rows.
+// The rows of a stored block.
 const SIDE: usize = 8;
+
+// And the data rows that it is made of.
 const DATA_ROWS: usize = 7;
 
 // The exclusive or of the rows of a proper block: every column is odd.
 const COLUMNS: u8 = 255;
 
-// The cells of even columns, of odd columns, and of even rows.
+// The cells of even columns.
 const EVEN_COLUMNS: u64 = 0x5555_5555_5555_5555;
+
+// And of odd columns.
 const ODD_COLUMNS: u64 = 0xaaaa_aaaa_aaaa_aaaa;
+
+// The cells of even rows.
 const EVEN_ROWS: u64 = 0x00ff_00ff_00ff_00ff;
 
-// Of odd rows columns 0 to 5, and columns 0 and 1.
+// Of odd rows the cells of columns 0 to 5.
 const SIX_OF_ODD_ROWS: u64 = 0x3f00_3f00_3f00_3f00;
+
+// And those of columns 0 and 1.
 const TWO_OF_ODD_ROWS: u64 = 0x0300_0300_0300_0300;
 
-// One bit of each row.
+// The first cell of each row.
 const LOWEST: u64 = 0x0101_0101_0101_0101;
 
-// A window at the first cell, and the first cells of the 49 windows: none goes around the edge.
+// Every cell of a row whose first is given, as a factor.
+const WHOLE_ROW: u64 = 0xff;
+
+// The window at row 0, column 0.
 const WINDOW: u64 = 0x0303;
+
+// The first cells of the 49 windows: none goes around the edge.
 const FIRST_CELLS: u64 = 0x007f_7f7f_7f7f_7f7f;
 
-// Two rows and six rows of cells.
+// A factor that moves cells two rows down.
 const TWO_ROWS: u64 = 0x1_0000;
+
+// And one that moves them six.
 const SIX_ROWS: u64 = 0x1_0000_0000_0000;
 
 // A stored block straightened: odd columns two rows upward, then odd rows two cells toward bit 0.
@@ -81,7 +97,7 @@ fn is_sound(x: u64) -> bool
     wrong_columns(x) == 0
 }
 
-// Where four numbers together hold so many ones or more.
+// Where four numbers together hold so many ones. Where they hold more it may tell so too, but no window holds more crossings than there are wrong columns.
 fn holding(count: u8, a: u64, b: u64, c: u64, d: u64) -> u64
     ensures { λ r. ⌜ r ≡ holding count a b c d ⌝ }
 {
@@ -100,7 +116,7 @@ fn holding(count: u8, a: u64, b: u64, c: u64, d: u64) -> u64
     (a & b) & (c & d)
 }
 
-// Of the cells where odd rows and wrong columns cross, those in the first window that holds so many; none where no window does.
+// Of the cells where odd rows and wrong columns cross, those in the first window that holds so many of them; none where no window does.
 fn first_with(count: u8, cells: u64) -> u64
     ensures { λ r. ⌜ r ≡ firstWith count cells ⌝ }
 {
@@ -111,13 +127,21 @@ fn first_with(count: u8, cells: u64) -> u64
     cells & (WINDOW << u64::trailing_zeros(firsts))
 }
 
-// The smudge of a block, if it has one. A window's cells lie in four rows and four columns, so a smudge is all the crossings in its window, as many as there are wrong columns.
+// The smudge of a block, if it has one. A window's cells come to four rows and to four columns, so that a smudge is all the crossings in its window, and these
+// are as many as the wrong columns.
 fn smudge_in(x: u64) -> u64
     ensures { λ r. ⌜ r ≡ smudgeIn x ⌝ }
 {
     let columns = wrong_columns(x);
-    let crossings = staggered((odd_rows(x) * 255) & (columns as u64 * LOWEST));
+    let crossings = staggered((odd_rows(x) * WHOLE_ROW) & (columns as u64 * LOWEST));
     first_with(u8::count_ones(columns) as u8, crossings)
+}
+
+// How many cells a number has.
+fn cells_in(p: u64) -> u8
+    ensures { λ r. ⌜ r ≡ ones p ⌝ }
+{
+    u64::count_ones(p) as u8
 }
 
 // Eight rows as one number.
@@ -125,7 +149,16 @@ fn eight_rows(rows: &[u8]) -> u64
     requires { ⌜ length (now rows) ≡ side ⌝ }
     ensures { λ r. ⌜ HoldsBytes (eightFrom (now (rows .entry)) 0) r ⌝ }
 {
-    eights::eight(rows[0], rows[1], rows[2], rows[3], rows[4], rows[5], rows[6], rows[7])
+    eights::eight(
+        rows[0],
+        rows[1],
+        rows[2],
+        rows[3],
+        rows[4],
+        rows[5],
+        rows[6],
+        rows[7],
+    )
 }
 
 // And written out.
@@ -152,7 +185,8 @@ fn stagger_rows(output: &mut [u8])
     put_rows(staggered(plain), output);
 }
 
-// Reads a stored block: writes the one that differs from the rows inside one window alone. What the parities ask for is taken off, and nothing may be left wrong.
+// Reads a stored block: writes the one that differs from the rows inside one window alone. What the parities ask for is taken off, and then nothing may be left
+// wrong.
 pub fn read_smudge(rows: &[u8], output: &mut [u8]) -> BlockReading
     ensures { λ r. ⌜ Reads (now (rows .entry)) (now (output .entry)) (readingNumbers r) (now (output .exit)) ⌝ }
 {
@@ -174,7 +208,7 @@ pub fn read_smudge(rows: &[u8], output: &mut [u8]) -> BlockReading
     }
     put_rows(clean, output);
     BlockReading::Block {
-        distance: u64::count_ones(smudge) as u8,
+        distance: cells_in(smudge),
     }
 }
 

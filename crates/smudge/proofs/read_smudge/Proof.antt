@@ -13,9 +13,6 @@ returns-3 c = search (read-whole, in-eight, needs)
 returns-4 : tie.Need-returns-4
 returns-4 c = search (read-none, in-eight, needs)
 
-cast-t20 : tie.Need-cast-t20
-cast-t20 c = omega (arith, lib.Count.ones-le 64 (c .before .before .before .before .before .before .smudge-in .result) (omega arith))
-
 returns-5 : tie.Need-returns-5
 returns-5 c = search (read-mended, in-eight, needs)
 
@@ -34,6 +31,6 @@ read-smudge-spec =
     (λ c κs. search needs)
     returns-4
     (λ c κs. search needs)
-    cast-t20
+    (λ c κs. search needs)
     (λ c. search needs)
     returns-5)

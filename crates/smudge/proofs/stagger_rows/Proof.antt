@@ -1,5 +1,4 @@
 -- `smudge::stagger_rows` meets its contract: the rows in one number, staggered and written.
-use native.Mathlib.Omega.{arith}
 use borrow.Author.Needs.{needs}
 use Rattle.smudge.proofs.Functions.{staggered-put}
 use Rattle.smudge.proofs.stagger_rows.Statement.{statement}

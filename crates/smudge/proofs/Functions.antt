@@ -4,12 +4,15 @@ use mathlib.Core.Bool.{false}
 use mathlib.Core.List.{List, [], _∷_}
 use Prim.Native.Nat.{ℕ, zero, suc, _*_, _/_, _%_, _^_, _<_, _≤_}
 use native.Mathlib.Omega.{arith}
-use lib.Bits.{bitXor, bitAnd, bitOr}
-use lib.Count.{trailingZeros}
-use lib.Dec.{eqb}
+use lib.Bits.{bitXor, bitAnd, bitOr, and-le-r}
+use lib.Count.{trailingZeros, trailing-le}
+use lib.Dec.{T, eqb, ltb, ltb→lt}
 use lib.ListN.{length, set}
 use lib.Pow.{shl-exact}
 use borrow.Author.Tests.{eqb-true, eqb-false}
+use mir.Syntax.{w64}
+use mir.Val.{Fits}
+use Rattle.numbers.proofs.Cases.{pos-of-not-zero}
 use Rattle.refusal.specs.Promise.{Tells}
 use Rattle.refusal.proofs.Laws.{tells-no}
 use Rattle.eights.specs.Inside.{byte, HoldsBytes, eightFrom}
@@ -18,6 +21,15 @@ use Rattle.smudge.specs.Smudge.{side, staggered}
 use Rattle.smudge.specs.Inside.{stagger, lowest, oddRows, wrongColumns, Sound, crossings, firstCells, holding, windowsWith, firstOf, firstWith, smudgeFor, smudgeIn, rowsIn}
 use Rattle.smudge.proofs.Turns.{in-rows, one-block, in-stagger, stagger-lt}
 use Rattle.smudge.proofs.Mending.{in-eight, lowest-most}
+use Rattle.smudge.proofs.Mending as Mending
+
+-- ---- bounds, whatever the mask is
+
+pub trailing-fits : (n : ℕ) → Fits w64 (trailingZeros 64 n)
+trailing-fits n = omega (arith, trailing-le 64 n)
+
+pub trailing-inside : (h m : ℕ) → T (ltb m 18446744073709551616) → (bitAnd h m ≡ 0 → ⊥) → trailingZeros 64 (bitAnd h m) < 64
+trailing-inside h m t d = Mending.trailing-inside (bitAnd h m) (pos-of-not-zero (bitAnd h m) d) (omega (arith, and-le-r h m, ltb→lt m 18446744073709551616 t))
 
 -- ---- holding
 

@@ -185,6 +185,13 @@ first-window t h e =
     one : (n : ℕ) (b : Bool) → n ≡ 1 → T (either (eqb n 0) b) → T b
     one n b e t = subst (λ (k : ℕ). T (either (eqb k 0) b)) e t
 
+-- the lowest one of a number of 64 bits
+pub trailing-inside : (n : ℕ) → 0 < n → n < 2 ^ 64 → trailingZeros 64 n < 64
+trailing-inside n p h =
+    ⊎-elim (λ (q : trailingZeros 64 n ≡ 64). absurd (let o : n / 2 ^ 64 % 2 ≡ 1 = ap (λ (k : ℕ). n / 2 ^ k % 2) (sym q) ∙ trailing-odd 64 n p h in omega arith))
+    (λ (l : trailingZeros 64 n < 64). l)
+    (eq-or-lt-of-le (trailing-le 64 n))
+
 -- the lowest cell of some first cells is one
 module _ (h m : ℕ) (e : suc m ≡ bitAnd h firstCells) where
   abbrev lowestCell : ℕ
@@ -197,10 +204,7 @@ module _ (h m : ℕ) (e : suc m ≡ bitAnd h firstCells) where
   lowest-one = trailing-odd 64 (suc m) (zero-lt-suc m) fits-64
 
   lowest-inside : lowestCell < 64
-  lowest-inside =
-      ⊎-elim (λ (q : lowestCell ≡ 64). absurd (let o : suc m / 2 ^ 64 % 2 ≡ 1 = ap (λ (n : ℕ). suc m / 2 ^ n % 2) (sym q) ∙ lowest-one in omega (arith, fits-64)))
-      (λ (l : lowestCell < 64). l)
-      (eq-or-lt-of-le (trailing-le 64 (suc m)))
+  lowest-inside = trailing-inside (suc m) (zero-lt-suc m) fits-64
 
   lowest-first : firstCells / 2 ^ lowestCell % 2 ≡ 1
   lowest-first =

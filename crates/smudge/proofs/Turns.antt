@@ -23,33 +23,37 @@ use Rattle.smudge.proofs.Cells.{rowFrom, columnFrom, straightened-cell,
 
 -- ---- they keep exclusive ors
 
+-- shifted up, within 64 bits
+up-by : (k : ℕ) → Linear (λ x. x * 2 ^ k % 18446744073709551616)
+up-by k = after (λ x. x % 18446744073709551616) (λ x. x * 2 ^ k) (lowest 64) (shifted-up k)
+
 up-linear : Linear up
 unfolding up
 up-linear =
-    added (λ x. bitAnd x evenColumns) (λ x. bitAnd (bitXor (x / 65536) (x % 65536 * 281474976710656)) oddColumns) (masked evenColumns)
-    (after (λ x. bitAnd x oddColumns) (λ x. bitXor (x / 65536) (x % 65536 * 281474976710656)) (masked oddColumns)
-    (added (λ x. x / 65536) (λ x. x % 65536 * 281474976710656) (shifted-down 16) (after (λ x. x * 281474976710656) (λ x. x % 65536) (shifted-up 48) (lowest 16))))
+    added (λ x. bitAnd x evenColumns) (λ x. bitAnd (bitXor (x / 65536) (x * 281474976710656 % 18446744073709551616)) oddColumns) (masked evenColumns)
+    (after (λ x. bitAnd x oddColumns) (λ x. bitXor (x / 65536) (x * 281474976710656 % 18446744073709551616)) (masked oddColumns)
+    (added (λ x. x / 65536) (λ x. x * 281474976710656 % 18446744073709551616) (shifted-down 16) (up-by 48)))
 
 left-linear : Linear left
 unfolding left
 left-linear =
-    added (λ x. bitXor (bitAnd x evenRows) (bitAnd (x / 4) sixOfOddRows)) (λ x. bitAnd x twoOfOddRows * 64)
+    added (λ x. bitXor (bitAnd x evenRows) (bitAnd (x / 4) sixOfOddRows)) (λ x. bitAnd x twoOfOddRows * 64 % 18446744073709551616)
     (added (λ x. bitAnd x evenRows) (λ x. bitAnd (x / 4) sixOfOddRows) (masked evenRows) (after (λ x. bitAnd x sixOfOddRows) (λ x. x / 4) (masked sixOfOddRows) (shifted-down 2)))
-    (after (λ x. x * 64) (λ x. bitAnd x twoOfOddRows) (shifted-up 6) (masked twoOfOddRows))
+    (after (λ x. x * 64 % 18446744073709551616) (λ x. bitAnd x twoOfOddRows) (up-by 6) (masked twoOfOddRows))
 
 right-linear : Linear right
 unfolding right
 right-linear =
-    added (λ x. bitXor (bitAnd x evenRows) (bitAnd x sixOfOddRows * 4)) (λ x. bitAnd (x / 64) twoOfOddRows)
-    (added (λ x. bitAnd x evenRows) (λ x. bitAnd x sixOfOddRows * 4) (masked evenRows) (after (λ x. x * 4) (λ x. bitAnd x sixOfOddRows) (shifted-up 2) (masked sixOfOddRows)))
+    added (λ x. bitXor (bitAnd x evenRows) (bitAnd x sixOfOddRows * 4 % 18446744073709551616)) (λ x. bitAnd (x / 64) twoOfOddRows)
+    (added (λ x. bitAnd x evenRows) (λ x. bitAnd x sixOfOddRows * 4 % 18446744073709551616) (masked evenRows) (after (λ x. x * 4 % 18446744073709551616) (λ x. bitAnd x sixOfOddRows) (up-by 2) (masked sixOfOddRows)))
     (after (λ x. bitAnd x twoOfOddRows) (λ x. x / 64) (masked twoOfOddRows) (shifted-down 6))
 
 down-linear : Linear down
 unfolding down
 down-linear =
-    added (λ x. bitAnd x evenColumns) (λ x. bitAnd (bitXor (x % 281474976710656 * 65536) (x / 281474976710656)) oddColumns) (masked evenColumns)
-    (after (λ x. bitAnd x oddColumns) (λ x. bitXor (x % 281474976710656 * 65536) (x / 281474976710656)) (masked oddColumns)
-    (added (λ x. x % 281474976710656 * 65536) (λ x. x / 281474976710656) (after (λ x. x * 65536) (λ x. x % 281474976710656) (shifted-up 16) (lowest 48)) (shifted-down 48)))
+    added (λ x. bitAnd x evenColumns) (λ x. bitAnd (bitXor (x * 65536 % 18446744073709551616) (x / 281474976710656)) oddColumns) (masked evenColumns)
+    (after (λ x. bitAnd x oddColumns) (λ x. bitXor (x * 65536 % 18446744073709551616) (x / 281474976710656)) (masked oddColumns)
+    (added (λ x. x * 65536 % 18446744073709551616) (λ x. x / 281474976710656) (up-by 16) (shifted-down 48)))
 
 pub straight-linear : Linear straight
 unfolding straight
@@ -69,15 +73,15 @@ pub straight-lt : (x : ℕ) → straight x < 2 ^ 64
 unfolding straight left
 straight-lt x =
     let y : ℕ = up x in
-    xor-lt 64 (bitXor (bitAnd y evenRows) (bitAnd (y / 4) sixOfOddRows)) (bitAnd y twoOfOddRows * 64)
+    xor-lt 64 (bitXor (bitAnd y evenRows) (bitAnd (y / 4) sixOfOddRows)) (bitAnd y twoOfOddRows * 64 % 18446744073709551616)
     (xor-lt 64 (bitAnd y evenRows) (bitAnd (y / 4) sixOfOddRows) (omega (arith, and-le-r y evenRows)) (omega (arith, and-le-r (y / 4) sixOfOddRows)))
-    (omega (arith, and-le-r y twoOfOddRows))
+    (omega arith)
 
 pub stagger-lt : (x : ℕ) → stagger x < 2 ^ 64
 unfolding stagger down
 stagger-lt x =
     let y : ℕ = right x in
-    let z : ℕ = bitXor (y % 281474976710656 * 65536) (y / 281474976710656) in
+    let z : ℕ = bitXor (y * 65536 % 18446744073709551616) (y / 281474976710656) in
     xor-lt 64 (bitAnd y evenColumns) (bitAnd z oddColumns) (omega (arith, and-le-r y evenColumns)) (omega (arith, and-le-r z oddColumns))
 
 -- ---- where they take each cell

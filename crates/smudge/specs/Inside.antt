@@ -29,19 +29,19 @@ abbrev pub twoOfOddRows : ℕ
 twoOfOddRows = 216176080698999552
 
 unfoldable pub up : ℕ → ℕ
-up x = bitXor (bitAnd x evenColumns) (bitAnd (bitXor (x / 65536) (x % 65536 * 281474976710656)) oddColumns)
+up x = bitXor (bitAnd x evenColumns) (bitAnd (bitXor (x / 65536) (x * 281474976710656 % 18446744073709551616)) oddColumns)
 
 unfoldable pub left : ℕ → ℕ
-left x = bitXor (bitXor (bitAnd x evenRows) (bitAnd (x / 4) sixOfOddRows)) (bitAnd x twoOfOddRows * 64)
+left x = bitXor (bitXor (bitAnd x evenRows) (bitAnd (x / 4) sixOfOddRows)) (bitAnd x twoOfOddRows * 64 % 18446744073709551616)
 
 unfoldable pub straight : ℕ → ℕ
 straight x = left (up x)
 
 unfoldable pub right : ℕ → ℕ
-right x = bitXor (bitXor (bitAnd x evenRows) (bitAnd x sixOfOddRows * 4)) (bitAnd (x / 64) twoOfOddRows)
+right x = bitXor (bitXor (bitAnd x evenRows) (bitAnd x sixOfOddRows * 4 % 18446744073709551616)) (bitAnd (x / 64) twoOfOddRows)
 
 unfoldable pub down : ℕ → ℕ
-down x = bitXor (bitAnd x evenColumns) (bitAnd (bitXor (x % 281474976710656 * 65536) (x / 281474976710656)) oddColumns)
+down x = bitXor (bitAnd x evenColumns) (bitAnd (bitXor (x * 65536 % 18446744073709551616) (x / 281474976710656)) oddColumns)
 
 unfoldable pub stagger : ℕ → ℕ
 stagger x = down (right x)

@@ -49,27 +49,27 @@ const WINDOW: u64 = 0x0303;
 // The first cells of the 49 windows: none goes around the edge.
 const FIRST_CELLS: u64 = 0x007f_7f7f_7f7f_7f7f;
 
-// A factor that moves cells two rows down.
-const TWO_ROWS: u64 = 0x1_0000;
+// The cells of two rows.
+const TWO_ROWS: u64 = 16;
 
-// And one that moves them six.
-const SIX_ROWS: u64 = 0x1_0000_0000_0000;
+// And of six.
+const SIX_ROWS: u64 = 48;
 
 // A stored block straightened: odd columns two rows upward, then odd rows two cells toward bit 0.
 fn straightened(x: u64) -> u64
     ensures { λ r. ⌜ r ≡ straight x ⌝ }
 {
-    let turned = (x / TWO_ROWS) ^ (x % TWO_ROWS * SIX_ROWS);
+    let turned = (x >> TWO_ROWS) ^ (x << SIX_ROWS);
     let y = (x & EVEN_COLUMNS) ^ (turned & ODD_COLUMNS);
-    (y & EVEN_ROWS) ^ ((y >> 2) & SIX_OF_ODD_ROWS) ^ ((y & TWO_OF_ODD_ROWS) * 64)
+    (y & EVEN_ROWS) ^ ((y >> 2) & SIX_OF_ODD_ROWS) ^ ((y & TWO_OF_ODD_ROWS) << 6)
 }
 
 // And staggered again: odd rows two cells away from bit 0, then odd columns two rows downward.
 fn staggered(x: u64) -> u64
     ensures { λ r. ⌜ r ≡ stagger x ⌝ }
 {
-    let y = (x & EVEN_ROWS) ^ ((x & SIX_OF_ODD_ROWS) * 4) ^ ((x >> 6) & TWO_OF_ODD_ROWS);
-    let turned = (y % SIX_ROWS * TWO_ROWS) ^ (y / SIX_ROWS);
+    let y = (x & EVEN_ROWS) ^ ((x & SIX_OF_ODD_ROWS) << 2) ^ ((x >> 6) & TWO_OF_ODD_ROWS);
+    let turned = (y << TWO_ROWS) ^ (y >> SIX_ROWS);
     (y & EVEN_COLUMNS) ^ (turned & ODD_COLUMNS)
 }
 

@@ -18,7 +18,7 @@ use Rattle.refusal.proofs.Laws.{tells-no}
 use Rattle.eights.specs.Inside.{byte, HoldsBytes, eightFrom}
 use Rattle.block.proofs.Bits.{byte-ones}
 use Rattle.smudge.specs.Smudge.{side, staggered}
-use Rattle.smudge.specs.Inside.{stagger, lowest, oddRows, wrongColumns, Sound, crossings, firstCells, holding, windowsWith, firstOf, firstWith, smudgeFor, smudgeIn, rowsIn}
+use Rattle.smudge.specs.Inside.{stagger, lowest, oddRows, wrongColumns, Sound, crossings, wholeRow, window, firstCells, holding, windowsWith, firstOf, firstWith, smudgeFor, smudgeIn, rowsIn}
 use Rattle.smudge.proofs.Turns.{in-rows, one-block, in-stagger, stagger-lt}
 use Rattle.smudge.proofs.Mending.{in-eight, lowest-most}
 use Rattle.smudge.proofs.Mending as Mending
@@ -64,23 +64,23 @@ first-none : (f m : ℕ) → m ≡ 0 → 0 ≡ firstOf f m
 unfolding firstOf
 first-none f m e = rw e refl
 
-first-some : (f m : ℕ) → (m ≡ 0 → ⊥) → bitAnd f (771 * 2 ^ trailingZeros 64 m) ≡ firstOf f m
+first-some : (f m : ℕ) → (m ≡ 0 → ⊥) → bitAnd f (window * 2 ^ trailingZeros 64 m) ≡ firstOf f m
 unfolding firstOf
 first-some f zero d = absurd (d refl)
 first-some f (suc m) d = refl
 
-module _ (n f h : ℕ) (e : h ≡ holding n f (f / 2) (f / 256) (f / 512)) where
+module _ (n f h : ℕ) (e : h ≡ holding n f (f / 2 ^ 1) (f / 2 ^ 8) (f / 2 ^ 9)) where
   pub with-none : bitAnd h firstCells ≡ 0 → 0 ≡ firstWith n f
   unfolding firstWith windowsWith
   with-none z = first-none f (windowsWith n f) (ap (λ (m : ℕ). bitAnd m firstCells) (sym e) ∙ z)
 
   -- a window at a first cell is not shifted out
-  pub with-some : (bitAnd h firstCells ≡ 0 → ⊥) → bitAnd f (771 * 2 ^ trailingZeros 64 (bitAnd h firstCells) % 18446744073709551616) ≡ firstWith n f
+  pub with-some : (bitAnd h firstCells ≡ 0 → ⊥) → bitAnd f (window * 2 ^ trailingZeros 64 (bitAnd h firstCells) % 18446744073709551616) ≡ firstWith n f
   unfolding firstWith windowsWith
   with-some d =
       let q : bitAnd h firstCells ≡ windowsWith n f = ap (λ (m : ℕ). bitAnd m firstCells) e in
       ap (bitAnd f) (shl-exact 10 (trailingZeros 64 (bitAnd h firstCells)) 64 (omega arith) (omega (arith, lowest-most h d)))
-      ∙ ap (λ (m : ℕ). bitAnd f (771 * 2 ^ trailingZeros 64 m)) q ∙ first-some f (windowsWith n f) (λ z. d (q ∙ z))
+      ∙ ap (λ (m : ℕ). bitAnd f (window * 2 ^ trailingZeros 64 m)) q ∙ first-some f (windowsWith n f) (λ z. d (q ∙ z))
 
 -- ---- eight rows written
 
@@ -116,7 +116,7 @@ columns-tell x odd wrong e f z =
 
 -- ---- the smudge
 
-pub smudge-is : (x odd wrong cells p : ℕ) → odd ≡ oddRows x → wrong ≡ wrongColumns x → wrong < 256 → cells ≡ stagger (bitAnd (odd * 255) (wrong * lowest))
+pub smudge-is : (x odd wrong cells p : ℕ) → odd ≡ oddRows x → wrong ≡ wrongColumns x → wrong < 256 → cells ≡ stagger (bitAnd (odd * wholeRow) (wrong * lowest))
     → p ≡ firstWith (lib.Count.ones wrong) cells → p ≡ smudgeIn x
 unfolding smudgeFor crossings
 smudge-is x odd wrong cells p e f h g q =

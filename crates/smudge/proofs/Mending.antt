@@ -21,7 +21,7 @@ use Rattle.eights.proofs.Loops.{holds-at}
 use Rattle.block.specs.Block.{Bytes, ones}
 use Rattle.block.proofs.Lanes.{trailing-odd}
 use Rattle.smudge.specs.Smudge.{side, cell, Window, Inside, Smudged}
-use Rattle.smudge.specs.Inside.{oddRows, wrongColumns, Sound, smudgeIn, firstCells, holding, windowsWith, firstOf, firstWith, smudgeFor, crossings, rowsIn}
+use Rattle.smudge.specs.Inside.{oddRows, wrongColumns, Sound, smudgeIn, window, firstCells, holding, windowsWith, firstOf, firstWith, smudgeFor, crossings, rowsIn}
 use Rattle.smudge.proofs.Cells.{lowestEight, lowest-long, lowest-bytes, lowest-cell}
 use Rattle.smudge.proofs.Turns.{bitOf, InOne, in-cell, in-rows, one-block}
 use Rattle.smudge.proofs.Parities.{stored-sound, sound-stored, rows-damaged, columns-damaged, columns}
@@ -215,7 +215,7 @@ module _ (h m : ℕ) (e : suc m ≡ bitAnd h firstCells) where
       both-one a b =
           bit-cases (λ (v : ℕ). bitAnd (a % 2) v ≡ 1 → v ≡ 1) (λ q. absurd (let z : bitAnd (a % 2) 0 ≡ 0 = and-zero-r (a % 2) in omega arith)) (λ q. refl) b
 
-  first-in-window : (f : ℕ) → InWindow (bitAnd f (771 * 2 ^ lowestCell))
+  first-in-window : (f : ℕ) → InWindow (bitAnd f (window * 2 ^ lowestCell))
   first-in-window f =
       let t : ℕ = lowestCell in
       let b : bitOf (t / 8) (t % 8) ≡ t = omega arith in
@@ -241,7 +241,7 @@ pub found-in-window : (odd wrong : ℕ) → InWindow (smudgeFor odd wrong)
 unfolding smudgeFor firstWith windowsWith
 found-in-window odd wrong =
     let f : ℕ = crossings odd wrong in
-    first-of-window (holding (ones wrong) f (f / 2) (f / 256) (f / 512)) f (windowsWith (ones wrong) f) refl
+    first-of-window (holding (ones wrong) f (f / 2 ^ 1) (f / 2 ^ 8) (f / 2 ^ 9)) f (windowsWith (ones wrong) f) refl
 
 -- ---- so where nothing is left wrong, the rows are what was found, smudged
 

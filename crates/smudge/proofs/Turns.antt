@@ -18,42 +18,46 @@ use Rattle.eights.proofs.Laws.{byte-lt, byte-bit}
 use Rattle.block.specs.Block.{Bytes}
 use Rattle.smudge.specs.Spread.{rowTo, columnTo}
 use Rattle.smudge.specs.Smudge.{side, cell, straightened, staggered}
-use Rattle.smudge.specs.Inside.{evenColumns, oddColumns, evenRows, sixOfOddRows, twoOfOddRows, up, left, straight, right, down, stagger, rowsIn}
+use Rattle.smudge.specs.Inside.{evenColumns, oddColumns, evenRows, sixOfOddRows, twoOfOddRows, twoRows, sixRows, allRows, higher, up, left, straight, right, down, stagger, rowsIn}
 use Rattle.smudge.proofs.Cells.{rowFrom, columnFrom, straightened-cell, straightened-long, straightened-bytes, staggered-cell, staggered-long, staggered-bytes}
 
 -- ---- they keep exclusive ors
 
--- shifted up, within 64 bits
-up-by : (k : ℕ) → Linear (λ x. x * 2 ^ k % 18446744073709551616)
-up-by k = after (λ x. x % 18446744073709551616) (λ x. x * 2 ^ k) (lowest 64) (shifted-up k)
+higher-linear : (k : ℕ) → Linear (higher k)
+higher-linear k = after (λ x. x % 2 ^ allRows) (λ x. x * 2 ^ k) (lowest allRows) (shifted-up k)
+
+-- a part of the cells, moved up or down
+part-higher : (k m : ℕ) → Linear (λ x. higher k (bitAnd x m))
+part-higher k m = after (higher k) (λ x. bitAnd x m) (higher-linear k) (masked m)
+
+part-lower : (k m : ℕ) → Linear (λ x. bitAnd (x / 2 ^ k) m)
+part-lower k m = after (λ x. bitAnd x m) (λ x. x / 2 ^ k) (masked m) (shifted-down k)
 
 up-linear : Linear up
 unfolding up
 up-linear =
-    added (λ x. bitAnd x evenColumns) (λ x. bitAnd (bitXor (x / 65536) (x * 281474976710656 % 18446744073709551616)) oddColumns) (masked evenColumns)
-    (after (λ x. bitAnd x oddColumns) (λ x. bitXor (x / 65536) (x * 281474976710656 % 18446744073709551616)) (masked oddColumns)
-    (added (λ x. x / 65536) (λ x. x * 281474976710656 % 18446744073709551616) (shifted-down 16) (up-by 48)))
+    added (λ x. bitAnd x evenColumns) (λ x. bitAnd (bitXor (x / 2 ^ twoRows) (higher sixRows x)) oddColumns) (masked evenColumns)
+    (after (λ x. bitAnd x oddColumns) (λ x. bitXor (x / 2 ^ twoRows) (higher sixRows x)) (masked oddColumns)
+    (added (λ x. x / 2 ^ twoRows) (higher sixRows) (shifted-down twoRows) (higher-linear sixRows)))
 
 left-linear : Linear left
 unfolding left
 left-linear =
-    added (λ x. bitXor (bitAnd x evenRows) (bitAnd (x / 4) sixOfOddRows)) (λ x. bitAnd x twoOfOddRows * 64 % 18446744073709551616)
-    (added (λ x. bitAnd x evenRows) (λ x. bitAnd (x / 4) sixOfOddRows) (masked evenRows) (after (λ x. bitAnd x sixOfOddRows) (λ x. x / 4) (masked sixOfOddRows) (shifted-down 2)))
-    (after (λ x. x * 64 % 18446744073709551616) (λ x. bitAnd x twoOfOddRows) (up-by 6) (masked twoOfOddRows))
+    added (λ x. bitXor (bitAnd x evenRows) (bitAnd (x / 2 ^ 2) sixOfOddRows)) (λ x. higher 6 (bitAnd x twoOfOddRows))
+    (added (λ x. bitAnd x evenRows) (λ x. bitAnd (x / 2 ^ 2) sixOfOddRows) (masked evenRows) (part-lower 2 sixOfOddRows)) (part-higher 6 twoOfOddRows)
 
 right-linear : Linear right
 unfolding right
 right-linear =
-    added (λ x. bitXor (bitAnd x evenRows) (bitAnd x sixOfOddRows * 4 % 18446744073709551616)) (λ x. bitAnd (x / 64) twoOfOddRows)
-    (added (λ x. bitAnd x evenRows) (λ x. bitAnd x sixOfOddRows * 4 % 18446744073709551616) (masked evenRows) (after (λ x. x * 4 % 18446744073709551616) (λ x. bitAnd x sixOfOddRows) (up-by 2) (masked sixOfOddRows)))
-    (after (λ x. bitAnd x twoOfOddRows) (λ x. x / 64) (masked twoOfOddRows) (shifted-down 6))
+    added (λ x. bitXor (bitAnd x evenRows) (higher 2 (bitAnd x sixOfOddRows))) (λ x. bitAnd (x / 2 ^ 6) twoOfOddRows)
+    (added (λ x. bitAnd x evenRows) (λ x. higher 2 (bitAnd x sixOfOddRows)) (masked evenRows) (part-higher 2 sixOfOddRows)) (part-lower 6 twoOfOddRows)
 
 down-linear : Linear down
 unfolding down
 down-linear =
-    added (λ x. bitAnd x evenColumns) (λ x. bitAnd (bitXor (x * 65536 % 18446744073709551616) (x / 281474976710656)) oddColumns) (masked evenColumns)
-    (after (λ x. bitAnd x oddColumns) (λ x. bitXor (x * 65536 % 18446744073709551616) (x / 281474976710656)) (masked oddColumns)
-    (added (λ x. x * 65536 % 18446744073709551616) (λ x. x / 281474976710656) (up-by 16) (shifted-down 48)))
+    added (λ x. bitAnd x evenColumns) (λ x. bitAnd (bitXor (higher twoRows x) (x / 2 ^ sixRows)) oddColumns) (masked evenColumns)
+    (after (λ x. bitAnd x oddColumns) (λ x. bitXor (higher twoRows x) (x / 2 ^ sixRows)) (masked oddColumns)
+    (added (higher twoRows) (λ x. x / 2 ^ sixRows) (higher-linear twoRows) (shifted-down sixRows)))
 
 pub straight-linear : Linear straight
 unfolding straight
@@ -73,15 +77,15 @@ pub straight-lt : (x : ℕ) → straight x < 2 ^ 64
 unfolding straight left
 straight-lt x =
     let y : ℕ = up x in
-    xor-lt 64 (bitXor (bitAnd y evenRows) (bitAnd (y / 4) sixOfOddRows)) (bitAnd y twoOfOddRows * 64 % 18446744073709551616)
-    (xor-lt 64 (bitAnd y evenRows) (bitAnd (y / 4) sixOfOddRows) (omega (arith, and-le-r y evenRows)) (omega (arith, and-le-r (y / 4) sixOfOddRows)))
+    xor-lt 64 (bitXor (bitAnd y evenRows) (bitAnd (y / 2 ^ 2) sixOfOddRows)) (higher 6 (bitAnd y twoOfOddRows))
+    (xor-lt 64 (bitAnd y evenRows) (bitAnd (y / 2 ^ 2) sixOfOddRows) (omega (arith, and-le-r y evenRows)) (omega (arith, and-le-r (y / 2 ^ 2) sixOfOddRows)))
     (omega arith)
 
 pub stagger-lt : (x : ℕ) → stagger x < 2 ^ 64
 unfolding stagger down
 stagger-lt x =
     let y : ℕ = right x in
-    let z : ℕ = bitXor (y * 65536 % 18446744073709551616) (y / 281474976710656) in
+    let z : ℕ = bitXor (higher twoRows y) (y / 2 ^ sixRows) in
     xor-lt 64 (bitAnd y evenColumns) (bitAnd z oddColumns) (omega (arith, and-le-r y evenColumns)) (omega (arith, and-le-r z oddColumns))
 
 -- ---- where they take each cell

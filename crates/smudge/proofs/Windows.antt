@@ -14,7 +14,7 @@ use Rattle.smudge.specs.Smudge.{side, Window, Inside}
 use lib.Count.{onesIn}
 use Rattle.numbers.specs.Total.{total}
 use Rattle.eights.specs.Inside.{byte}
-use Rattle.smudge.specs.Inside.{up, left, straight, right, down, stagger, oddBytes, oddRows, crossings, holding, windowsWith, firstOf, firstWith, smudgeFor}
+use Rattle.smudge.specs.Inside.{window, up, left, straight, right, down, stagger, oddBytes, oddRows, crossings, holding, windowsWith, firstOf, firstWith, smudgeFor}
 use Rattle.smudge.proofs.Parities.{columns}
 use Rattle.smudge.proofs.Turns.{bitOf}
 
@@ -24,7 +24,7 @@ none-turned = refl
 
 -- the cells of the window at (r, c)
 abbrev pub cellsOf : ℕ → ℕ → ℕ
-cellsOf r c = 771 * 2 ^ bitOf r c
+cellsOf r c = window * 2 ^ bitOf r c
 
 -- ---- which cells those are
 

@@ -28,20 +28,34 @@ sixOfOddRows = 4539697694678990592
 abbrev pub twoOfOddRows : ℕ
 twoOfOddRows = 216176080698999552
 
+-- the cells of two rows, of six and of all eight
+abbrev pub twoRows : ℕ
+twoRows = 16
+
+abbrev pub sixRows : ℕ
+sixRows = 48
+
+abbrev pub allRows : ℕ
+allRows = 64
+
+-- cells moved up by as many places, within the number
+abbrev pub higher : ℕ → ℕ → ℕ
+higher k x = x * 2 ^ k % 2 ^ allRows
+
 unfoldable pub up : ℕ → ℕ
-up x = bitXor (bitAnd x evenColumns) (bitAnd (bitXor (x / 65536) (x * 281474976710656 % 18446744073709551616)) oddColumns)
+up x = bitXor (bitAnd x evenColumns) (bitAnd (bitXor (x / 2 ^ twoRows) (higher sixRows x)) oddColumns)
 
 unfoldable pub left : ℕ → ℕ
-left x = bitXor (bitXor (bitAnd x evenRows) (bitAnd (x / 4) sixOfOddRows)) (bitAnd x twoOfOddRows * 64 % 18446744073709551616)
+left x = bitXor (bitXor (bitAnd x evenRows) (bitAnd (x / 2 ^ 2) sixOfOddRows)) (higher 6 (bitAnd x twoOfOddRows))
 
 unfoldable pub straight : ℕ → ℕ
 straight x = left (up x)
 
 unfoldable pub right : ℕ → ℕ
-right x = bitXor (bitXor (bitAnd x evenRows) (bitAnd x sixOfOddRows * 4 % 18446744073709551616)) (bitAnd (x / 64) twoOfOddRows)
+right x = bitXor (bitXor (bitAnd x evenRows) (higher 2 (bitAnd x sixOfOddRows))) (bitAnd (x / 2 ^ 6) twoOfOddRows)
 
 unfoldable pub down : ℕ → ℕ
-down x = bitXor (bitAnd x evenColumns) (bitAnd (bitXor (x * 65536 % 18446744073709551616) (x / 281474976710656)) oddColumns)
+down x = bitXor (bitAnd x evenColumns) (bitAnd (bitXor (higher twoRows x) (x / 2 ^ sixRows)) oddColumns)
 
 unfoldable pub stagger : ℕ → ℕ
 stagger x = down (right x)
@@ -74,9 +88,17 @@ pub record Sound (x : ℕ) : Type 0 where
 
 -- ---- from parities to a smudge
 
+-- every cell of a row whose first is given, as a factor
+abbrev pub wholeRow : ℕ
+wholeRow = 255
+
 -- the cells where an odd row and a wrong column cross, as they are stored
 unfoldable pub crossings : ℕ → ℕ → ℕ
-crossings odd wrong = stagger (bitAnd (odd * 255) (wrong * lowest))
+crossings odd wrong = stagger (bitAnd (odd * wholeRow) (wrong * lowest))
+
+-- the window at row 0, column 0
+abbrev pub window : ℕ
+window = 771
 
 -- the first cells of the 49 windows
 abbrev pub firstCells : ℕ
@@ -92,12 +114,12 @@ holding (suc (suc (suc (suc n)))) a b c d = bitAnd (bitAnd a b) (bitAnd c d)
 
 -- the first cells of the windows that hold n of the crossings
 unfoldable pub windowsWith : ℕ → ℕ → ℕ
-windowsWith n f = bitAnd (holding n f (f / 2) (f / 256) (f / 512)) firstCells
+windowsWith n f = bitAnd (holding n f (f / 2 ^ 1) (f / 2 ^ 8) (f / 2 ^ 9)) firstCells
 
 -- what stands in the window at the first of these cells; nothing where there is none
 unfoldable pub firstOf : ℕ → ℕ → ℕ
 firstOf f zero = 0
-firstOf f (suc m) = bitAnd f (771 * 2 ^ trailingZeros 64 (suc m))
+firstOf f (suc m) = bitAnd f (window * 2 ^ trailingZeros allRows (suc m))
 
 -- the crossings in the first window that holds n of them
 unfoldable pub firstWith : ℕ → ℕ → ℕ

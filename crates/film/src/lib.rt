@@ -314,16 +314,38 @@ pub extern "C" fn film_panel_ring(ring: &[u8], radius: u8, out: &mut [u8]) -> Fi
     panel_shown(panel::panel_ring(ring, radius, out))
 }
 
+// The answer of encoding a block, of either kind, in the library's form.
+fn block_written(given: BlockEncoding) -> u8
+    ensures { λ r. ⌜ r ∷ [] ≡ Block.encodingNumbers given ⌝ }
+{
+    match given {
+        BlockEncoding::Written => 0,
+        BlockEncoding::Refused(why) => refusal::number(why),
+    }
+}
+
+// The answer of reading a block, of either kind, in the library's form.
+fn block_read(given: BlockReading) -> FilmBlock
+    ensures { λ r. ⌜ blockNumbers r ≡ Block.readingNumbers given ⌝ }
+{
+    match given {
+        BlockReading::Block { distance } => FilmBlock {
+            answer: 0,
+            distance: distance, // in bits
+        },
+        BlockReading::Refused(why) => FilmBlock {
+            answer: refusal::number(why),
+            distance: 0,
+        },
+    }
+}
+
 // Encodes a block.
 #[no_mangle]
 pub extern "C" fn film_encode_block(given: &[u8], out: &mut [u8]) -> u8
     ensures { λ r. ⌜ Block.Encodes (now (given .entry)) (now (out .entry)) (r ∷ []) (now (out .exit)) ⌝ }
 {
-    let encoding = block::encode_block(given, out);
-    match encoding {
-        BlockEncoding::Written => 0,
-        BlockEncoding::Refused(why) => refusal::number(why),
-    }
+    block_written(block::encode_block(given, out))
 }
 
 // Reads a block.
@@ -331,17 +353,7 @@ pub extern "C" fn film_encode_block(given: &[u8], out: &mut [u8]) -> u8
 pub extern "C" fn film_read_block(rows: &[u8], out: &mut [u8]) -> FilmBlock
     ensures { λ r. ⌜ Block.Reads (now (rows .entry)) (now (out .entry)) (blockNumbers r) (now (out .exit)) ⌝ }
 {
-    let given = block::read_block(rows, out);
-    match given {
-        BlockReading::Block { distance } => FilmBlock {
-            answer: 0,
-            distance: distance, // 0 or 1 bit
-        },
-        BlockReading::Refused(why) => FilmBlock {
-            answer: refusal::number(why),
-            distance: 0,
-        },
-    }
+    block_read(block::read_block(rows, out))
 }
 
 // Encodes a block that outlasts a smudge.
@@ -349,11 +361,7 @@ pub extern "C" fn film_read_block(rows: &[u8], out: &mut [u8]) -> FilmBlock
 pub extern "C" fn film_encode_smudge(given: &[u8], out: &mut [u8]) -> u8
     ensures { λ r. ⌜ Smudge.Encodes (now (given .entry)) (now (out .entry)) (r ∷ []) (now (out .exit)) ⌝ }
 {
-    let encoding = smudge::encode_smudge(given, out);
-    match encoding {
-        BlockEncoding::Written => 0,
-        BlockEncoding::Refused(why) => refusal::number(why),
-    }
+    block_written(smudge::encode_smudge(given, out))
 }
 
 // Reads a block that may be smudged.
@@ -361,15 +369,5 @@ pub extern "C" fn film_encode_smudge(given: &[u8], out: &mut [u8]) -> u8
 pub extern "C" fn film_read_smudge(rows: &[u8], out: &mut [u8]) -> FilmBlock
     ensures { λ r. ⌜ Smudge.Reads (now (rows .entry)) (now (out .entry)) (blockNumbers r) (now (out .exit)) ⌝ }
 {
-    let given = smudge::read_smudge(rows, out);
-    match given {
-        BlockReading::Block { distance } => FilmBlock {
-            answer: 0,
-            distance: distance, // 0 to 4 bits
-        },
-        BlockReading::Refused(why) => FilmBlock {
-            answer: refusal::number(why),
-            distance: 0,
-        },
-    }
+    block_read(smudge::read_smudge(rows, out))
 }

@@ -1,23 +1,11 @@
--- `film::film_encode_block` promises what `block::encode_block` does: in each arm the number is that of the case.
+-- `film::film_encode_block` promises what `block::encode_block` does: the numbers are the same.
 use borrow.Author.Needs.{needs}
 use Rattle.film.proofs.film_encode_block.Statement.{statement}
 use Rattle.film.proofs.film_encode_block.Tie as tie
 
 returns : tie.Need-returns
-returns c = rw (c .enum-told .given .1) at (c .before .before .before .before .encode-block .ensures)
-
-returns-2 : tie.Need-returns-2
-returns-2 c = rw (c .number .ensures) (rw (c .before .before .encoding .given .1) at (c .before .before .before .before .before .before .encode-block .ensures))
+returns c = rw (c .block-written .ensures) (c .before .before .before .encode-block .ensures)
 
 pub film-encode-block-spec : {M : Type 1} → statement M
 film-encode-block-spec =
-    tie.close
-    (tie.spec
-    (λ c κs. search needs)
-    (λ c. search needs)
-    (λ c. search needs)
-    (λ c κs. search needs)
-    (λ c. search needs)
-    returns
-    (λ c. search needs)
-    returns-2)
+    tie.close (tie.spec (λ c κs. search needs) (λ c κs. search needs) (λ c. search needs) returns)

@@ -9,8 +9,8 @@ use lib.ListN.{length, getD}
 use lib.Seq.{ext-getD}
 use Rattle.numbers.proofs.Bits.{halved, same-bits}
 use Rattle.numbers.proofs.Cases.{bit-lt}
-use Rattle.numbers.proofs.Range.{each, each-at}
 use Rattle.block.specs.Block.{Bytes}
+use Rattle.smudge.proofs.Ranges.{eachTwo, two-at}
 use Rattle.smudge.specs.Spread.{rowTo, columnTo}
 use Rattle.smudge.specs.Smudge.{side, cell, rowOf, rowsOf, turn, upward, leftward, straightened, rightward, downward, staggered}
 
@@ -146,12 +146,10 @@ upward-bytes rows = rows-bytes side 0 _ (λ i j. cell-bit rows ((i + turn j) % s
 
 -- what is the same at every cell, as the checker computes it
 abbrev pub SameAtEach : (ℕ → ℕ → ℕ) → (ℕ → ℕ → ℕ) → Type 0
-SameAtEach f g = T (each side (λ i. each side (λ j. eqb (f i j) (g i j))))
+SameAtEach f g = T (eachTwo side side (λ i j. eqb (f i j) (g i j)))
 
 pub same-at : (f g : ℕ → ℕ → ℕ) → SameAtEach f g → (i j : ℕ) → i < side → j < side → f i j ≡ g i j
-same-at f g t i j hi hj =
-    eqb→eq (f i j) (g i j)
-    (each-at side (λ j. eqb (f i j) (g i j)) (each-at side (λ i. each side (λ j. eqb (f i j) (g i j))) t i hi) j hj)
+same-at f g t i j hi hj = eqb→eq (f i j) (g i j) (two-at side side (λ i j. eqb (f i j) (g i j)) t i j hi hj)
 
 module _ (rows : List ℕ) (long : length rows ≡ side) (bytes : Bytes rows) where
   pub straightened-staggered : straightened (staggered rows) ≡ rows

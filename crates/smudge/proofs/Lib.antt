@@ -1,4 +1,5 @@
--- Blocks that outlast a smudge: the laws of cells, turns, parities and windows, each way out of a function, the bench sheet's rows, and the theorems.
+-- Blocks that outlast a smudge: tests over ranges, the laws of cells, turns, parities and windows, each way out of a function, the bench sheet's rows, and the theorems.
+pub mod Ranges
 pub mod Cells
 pub mod Turns
 pub mod Parities
@@ -8,5 +9,6 @@ pub mod Functions
 pub mod Reading
 pub mod Encoding
 pub mod Results
+pub mod Spreading
 pub mod Bench
 pub mod Theorems

@@ -1,6 +1,6 @@
 -- What a smudge did is found from the parities: where some window serves, the block is the rows with what was found taken off; and what is found lies in a window.
 use mathlib.Core.Path.{_≡_, refl, sym, ap, ap₂, subst, _∙_}
-use mathlib.Core.Bool.{Bool, true, false}
+use mathlib.Core.Bool.{Bool}
 use mathlib.Core.List.{List}
 use mathlib.Core.Logic.{⊎-elim}
 use Prim.Native.Nat.{ℕ, zero, suc, _+_, _*_, _/_, _%_, _^_, _<_, _≤_}
@@ -23,6 +23,7 @@ use Rattle.block.proofs.Lanes.{trailing-odd}
 use Rattle.smudge.specs.Smudge.{side, cell, Window, Inside, Smudged}
 use Rattle.smudge.specs.Inside.{oddRows, wrongColumns, Sound, smudgeIn, window, firstCells, holding, windowsWith, firstOf, firstWith, smudgeFor, crossings, rowsIn}
 use Rattle.smudge.proofs.Cells.{lowestEight, lowest-long, lowest-bytes, lowest-cell}
+use Rattle.smudge.proofs.Ranges.{either}
 use Rattle.smudge.proofs.Turns.{bitOf, InOne, in-cell, in-rows, one-block}
 use Rattle.smudge.proofs.Parities.{stored-sound, sound-stored, rows-damaged, columns-damaged, columns}
 use Rattle.smudge.proofs.Windows.{cellsOf, none-outside, outside-none, inside-found, inside-few}
@@ -163,10 +164,6 @@ nothing-window =
       window = record { rows = omega arith; columns = omega arith };
       outside = λ i j hi hj out. ap (λ (n : ℕ). n % 2) (zero-div (2 ^ bitOf i j));
     }
-
-abbrev either : Bool → Bool → Bool
-either true b = true
-either false b = b
 
 -- the first cells of windows
 firsts-test : T (each 64 (λ t. either (eqb (firstCells / 2 ^ t % 2) 0) (both (leb (t / 8) 6) (leb (t % 8) 6))))

@@ -1,108 +1,31 @@
 -- What is proved of blocks that outlast a smudge, in the words of the request.
-use mathlib.Core.Path.{_≡_, refl, sym, ap, ap₂, _∙_}
-use mathlib.Core.Bool.{Bool, true, false, not}
+use mathlib.Core.Path.{_≡_, refl, sym, ap, _∙_}
+use mathlib.Core.Bool.{not}
 use mathlib.Core.List.{List, [], _∷_}
-use Prim.Native.Nat.{ℕ, _+_, _-_, _<_, _≤_, _^_}
-use native.Mathlib.Omega.{arith}
+use Prim.Native.Nat.{ℕ, _-_, _<_, _≤_, _^_}
 use lib.ListN.{length, replicate}
 use lib.Bits.{bitXor, xor-lt}
-use lib.Count.{onesIn}
-use lib.Dec.{T, eqb, eqb→eq}
-use Rattle.numbers.specs.Total.{total}
-use Rattle.numbers.proofs.Range.{both, both-left, both-right, each, each-at, eq→eqb}
 use Rattle.numbers.proofs.Xor.{xor-undo}
 use Rattle.refusal.specs.declared.Refusal.the-variants.{NoBlock}
 use Rattle.refusal.proofs.Ladder.{given, succeeds}
 use Rattle.refusal.proofs.Theorems.{one-result, same-numbers}
-use Rattle.eights.specs.Inside.{byte}
 use Rattle.block.specs.declared.BlockReading.{BlockReading}
 use Rattle.block.specs.declared.BlockReading.the-variants as R
 use Rattle.block.specs.declared.BlockEncoding.{BlockEncoding}
 use Rattle.block.specs.Block.{Bytes, dataOf, distance}
-use Rattle.block.specs.Inside.{wanted}
 use Rattle.block.specs.Promises.{readingNumbers, encodingNumbers}
 use Rattle.block.proofs.Results.{reading-fixed, encoding-fixed}
 use Rattle.smudge.specs.Spread.{rowTo, columnTo}
 use Rattle.smudge.specs.Smudge.{side, cell, upward, leftward, straightened, staggered, Stored, Records, Window, Inside, Smudged, Mendable}
 use Rattle.smudge.specs.Promises.{readingTests, ReadAs, Reads, encodingTests, EncodedAs, Encodes}
-use Rattle.smudge.specs.Inside.{up, left, straight, right, down, stagger, oddBytes, wrongColumns, crossings, holding, windowsWith, firstOf, firstWith, smudgeFor, smudgeIn, rowsIn}
+use Rattle.smudge.specs.Inside.{smudgeIn, rowsIn}
 use Rattle.smudge.proofs.Cells as Cells
 use Rattle.smudge.proofs.Turns.{InOne, in-rows, one-block}
 use Rattle.smudge.proofs.Mending as Mending
 use Rattle.smudge.proofs.Encoding.{plain-long}
 use Rattle.smudge.proofs.Reading.{refused, turned-cells}
+use Rattle.smudge.proofs.Spreading as Spreading
 use Rattle.smudge.proofs.Results.{one-read-as, one-record, one-encoded-as}
-
--- ---- what two of them rest on
-
-abbrev either : Bool → Bool → Bool
-either true b = true
-either false b = b
-
--- a place that two cells of a window share is that of one cell, as the checker computes it
-abbrev Spread : (ℕ → ℕ → ℕ) → Type 0
-Spread f =
-    T
-    (each 7
-    (λ r. each 7
-    (λ c. each 2
-    (λ a. each 2
-    (λ b. each 2 (λ x. each 2 (λ y. either (not (eqb (f (r + a) (c + b)) (f (r + x) (c + y)))) (both (eqb a x) (eqb b y)))))))))
-
-spread : (f : ℕ → ℕ → ℕ) → Spread f → (r c i j k l : ℕ) → Window r c → Inside r c i j → Inside r c k l → f i j ≡ f k l → (i ≡ k) × (j ≡ l)
-spread f t r c i j k l w p q e =
-    let a : ℕ = i - r in
-    let b : ℕ = j - c in
-    let x : ℕ = k - r in
-    let y : ℕ = l - c in
-    let ea : r + a ≡ i = omega (arith, p .from-row) in
-    let eb : c + b ≡ j = omega (arith, p .from-column) in
-    let ex : r + x ≡ k = omega (arith, q .from-row) in
-    let ey : c + y ≡ l = omega (arith, q .from-column) in
-    let s : T (either (not (eqb (f (r + a) (c + b)) (f (r + x) (c + y)))) (both (eqb a x) (eqb b y))) =
-    each-at 2 (λ y. either (not (eqb (f (r + a) (c + b)) (f (r + x) (c + y)))) (both (eqb a x) (eqb b y)))
-    (each-at 2 (λ x. each 2 (λ y. either (not (eqb (f (r + a) (c + b)) (f (r + x) (c + y)))) (both (eqb a x) (eqb b y))))
-    (each-at 2 (λ b. each 2 (λ x. each 2 (λ y. either (not (eqb (f (r + a) (c + b)) (f (r + x) (c + y)))) (both (eqb a x) (eqb b y)))))
-    (each-at 2 (λ a. each 2 (λ b. each 2 (λ x. each 2 (λ y. either (not (eqb (f (r + a) (c + b)) (f (r + x) (c + y)))) (both (eqb a x) (eqb b y))))))
-    (each-at 7 (λ c. each 2 (λ a. each 2 (λ b. each 2 (λ x. each 2 (λ y. either (not (eqb (f (r + a) (c + b)) (f (r + x) (c + y)))) (both (eqb a x) (eqb b y)))))))
-    (each-at 7 (λ r. each 7 (λ c. each 2 (λ a. each 2 (λ b. each 2 (λ x. each 2 (λ y. either (not (eqb (f (r + a) (c + b)) (f (r + x) (c + y)))) (both (eqb a x) (eqb b y)))))))) t r (omega (arith, w .rows)))
-    c
-    (omega (arith, w .columns)))
-    a
-    (omega (arith, p .to-row)))
-    b
-    (omega (arith, p .to-column)))
-    x
-    (omega (arith, q .to-row)))
-    y
-    (omega (arith, q .to-column))
-    in
-    let shared : f (r + a) (c + b) ≡ f (r + x) (c + y) = ap₂ f ea eb ∙ e ∙ sym (ap₂ f ex ey) in
-    let same : T (both (eqb a x) (eqb b y)) = told (f (r + a) (c + b)) (f (r + x) (c + y)) (both (eqb a x) (eqb b y)) shared s in
-    let u : a ≡ x = eqb→eq a x (both-left (eqb a x) (eqb b y) same) in
-    let v : b ≡ y = eqb→eq b y (both-right (eqb a x) (eqb b y) same) in
-    (sym ea ∙ ap (λ (n : ℕ). r + n) u ∙ ex, sym eb ∙ ap (λ (n : ℕ). c + n) v ∙ ey)
-  where
-    told : (m n : ℕ) (b : Bool) → m ≡ n → T (either (not (eqb m n)) b) → T b
-    told m n b e t = go (eqb m n) (eq→eqb m n e) t
-      where
-        go : (d : Bool) → T d → T (either (not d) b) → T b
-        go true h t = t
-        go false h t = absurd h
-
-dark-in : InOne (replicate side 0) 0
-unfolding byte
-dark-in = in-rows 0 (omega arith)
-
-dark-left : wrongColumns (bitXor 0 (smudgeIn 0)) ≡ 255
-unfolding up left straight right down stagger oddBytes total byte onesIn crossings holding windowsWith firstOf firstWith smudgeFor wanted
-dark-left = refl
-
-dark-none : Mendable (replicate side 0) → ⊥
-dark-none m =
-    let z : wrongColumns (bitXor 0 (smudgeIn 0)) ≡ 0 = Mending.smudged-mended (replicate side 0) 0 dark-in (m .0) (m .1) .1 .columns in
-    let d : wrongColumns (bitXor 0 (smudgeIn 0)) ≡ 255 = dark-left in
-    omega arith
 
 -- ---- the turns
 
@@ -140,10 +63,10 @@ comes-to = Cells.comes-to
 
 -- those of a window to different rows and to different columns
 pub apart-in-rows : (r c i j k l : ℕ) → Window r c → Inside r c i j → Inside r c k l → rowTo i j ≡ rowTo k l → (i ≡ k) × (j ≡ l)
-apart-in-rows r c i j k l w a b e = spread rowTo tt r c i j k l w a b e
+apart-in-rows r c i j k l w a b e = Spreading.spread rowTo tt r c i j k l w a b e
 
 pub apart-in-columns : (r c i j k l : ℕ) → Window r c → Inside r c i j → Inside r c k l → columnTo i j ≡ columnTo k l → (i ≡ k) × (j ≡ l)
-apart-in-columns r c i j k l w a b e = spread columnTo tt r c i j k l w a b e
+apart-in-columns r c i j k l w a b e = Spreading.spread columnTo tt r c i j k l w a b e
 
 -- ---- reading
 
@@ -234,4 +157,4 @@ read-encoded given block rows old new row column r seven h long room w out =
 
 -- eight dark rows are refused, with 9
 pub read-dark : (old new : List ℕ) (r : BlockReading) → length old ≡ side → Reads (replicate side 0) old (readingNumbers r) new → (r ≡ R.Refused NoBlock) × (new ≡ old)
-read-dark old new r room = read-no-window (replicate side 0) old new r refl room dark-none
+read-dark old new r room = read-no-window (replicate side 0) old new r refl room Spreading.dark-none

@@ -19,6 +19,7 @@ use Rattle.block.specs.Block.{Bytes}
 use Rattle.smudge.specs.Spread.{rowTo, columnTo}
 use Rattle.smudge.specs.Smudge.{side, cell, straightened, staggered}
 use Rattle.smudge.specs.Inside.{evenColumns, oddColumns, evenRows, sixOfOddRows, twoOfOddRows, twoRows, sixRows, allRows, higher, up, left, straight, right, down, stagger, rowsIn}
+use Rattle.smudge.proofs.Ranges.{eachTwo, two-at}
 use Rattle.smudge.proofs.Cells.{rowFrom, columnFrom, straightened-cell, straightened-long, straightened-bytes, staggered-cell, staggered-long, staggered-bytes}
 
 -- ---- they keep exclusive ors
@@ -96,7 +97,7 @@ bitOf i j = 8 * i + j
 
 -- every cell of y is that of x in row r i j and column c i j
 abbrev agrees : (ℕ → ℕ → ℕ) → (ℕ → ℕ → ℕ) → ℕ → ℕ → Bool
-agrees r c y x = each side (λ i. each side (λ j. eqb (y / 2 ^ bitOf i j % 2) (x / 2 ^ bitOf (r i j) (c i j) % 2)))
+agrees r c y x = eachTwo side side (λ i j. eqb (y / 2 ^ bitOf i j % 2) (x / 2 ^ bitOf (r i j) (c i j) % 2))
 
 -- so f moves the cells, tested at the powers of 2
 abbrev Moves : (ℕ → ℕ) → (ℕ → ℕ → ℕ) → (ℕ → ℕ → ℕ) → Type 0
@@ -109,13 +110,7 @@ moves f r c l t x h i j hi hj =
     (bit-linear (bitOf (r i j) (c i j)))
     (λ k b.
     eqb→eq (f (2 ^ k) / 2 ^ bitOf i j % 2) (2 ^ k / 2 ^ bitOf (r i j) (c i j) % 2)
-    (each-at side (λ j. eqb (f (2 ^ k) / 2 ^ bitOf i j % 2) (2 ^ k / 2 ^ bitOf (r i j) (c i j) % 2))
-    (each-at side (λ i. each side (λ j. eqb (f (2 ^ k) / 2 ^ bitOf i j % 2) (2 ^ k / 2 ^ bitOf (r i j) (c i j) % 2)))
-    (each-at 64 (λ k. agrees r c (f (2 ^ k)) (2 ^ k)) t k b)
-    i
-    hi)
-    j
-    hj))
+    (two-at side side (λ i j. eqb (f (2 ^ k) / 2 ^ bitOf i j % 2) (2 ^ k / 2 ^ bitOf (r i j) (c i j) % 2)) (each-at 64 (λ k. agrees r c (f (2 ^ k)) (2 ^ k)) t k b) i j hi hj))
     x h
 
 straight-moves : Moves straight rowFrom columnFrom

@@ -6,15 +6,15 @@ use native.Mathlib.Nat.{add-zero}
 use native.Mathlib.Omega.{arith}
 use lib.Dec.{T, eqb, eqb→eq, leb, leb→le, le→leb}
 use lib.Bits.{bitXor, bitAnd}
-use lib.Count.{trailingZeros, ones-cat}
+use lib.Count.{onesIn, trailingZeros, ones-cat}
 use lib.Pow.{pow-pos}
-use Rattle.numbers.proofs.Range.{both, both-left, both-right, each, each-at}
-use Rattle.numbers.proofs.Linear.{Linear, shifted-down, shifted-up, lowest, masked, added, after, same-maps}
-use Rattle.smudge.specs.Smudge.{side, Window, Inside}
-use lib.Count.{onesIn}
 use Rattle.numbers.specs.Total.{total}
+use Rattle.numbers.proofs.Range.{both, both-left, both-right}
+use Rattle.numbers.proofs.Linear.{Linear, shifted-down, shifted-up, lowest, masked, added, after, same-maps}
 use Rattle.eights.specs.Inside.{byte}
+use Rattle.smudge.specs.Smudge.{side, Window, Inside}
 use Rattle.smudge.specs.Inside.{window, up, left, straight, right, down, stagger, oddBytes, oddRows, crossings, holding, windowsWith, firstOf, firstWith, smudgeFor}
+use Rattle.smudge.proofs.Ranges.{eachTwo, two-at, eachThree, three-at, eachFour, four-at}
 use Rattle.smudge.proofs.Parities.{columns}
 use Rattle.smudge.proofs.Turns.{bitOf}
 
@@ -34,22 +34,13 @@ inside r c i j = both (both (leb r i) (leb i (r + 1))) (both (leb c j) (leb j (c
 abbrev oneIf : Bool → ℕ
 oneIf b = cond b 1 0
 
-cells-test : T (each 7 (λ r. each 7 (λ c. each 8 (λ i. each 8 (λ j. eqb (cellsOf r c / 2 ^ bitOf i j % 2) (oneIf (inside r c i j)))))))
+cells-test : T (eachFour 7 7 8 8 (λ r c i j. eqb (cellsOf r c / 2 ^ bitOf i j % 2) (oneIf (inside r c i j))))
 cells-test = tt
 
 cells-are : (r c i j : ℕ) → r < 7 → c < 7 → i < 8 → j < 8 → cellsOf r c / 2 ^ bitOf i j % 2 ≡ oneIf (inside r c i j)
 cells-are r c i j hr hc hi hj =
     eqb→eq (cellsOf r c / 2 ^ bitOf i j % 2) (oneIf (inside r c i j))
-    (each-at 8 (λ j. eqb (cellsOf r c / 2 ^ bitOf i j % 2) (oneIf (inside r c i j)))
-    (each-at 8 (λ i. each 8 (λ j. eqb (cellsOf r c / 2 ^ bitOf i j % 2) (oneIf (inside r c i j))))
-    (each-at 7 (λ c. each 8 (λ i. each 8 (λ j. eqb (cellsOf r c / 2 ^ bitOf i j % 2) (oneIf (inside r c i j)))))
-    (each-at 7 (λ r. each 7 (λ c. each 8 (λ i. each 8 (λ j. eqb (cellsOf r c / 2 ^ bitOf i j % 2) (oneIf (inside r c i j)))))) cells-test r hr)
-    c
-    hc)
-    i
-    hi)
-    j
-    hj)
+    (four-at 7 7 8 8 (λ r c i j. eqb (cellsOf r c / 2 ^ bitOf i j % 2) (oneIf (inside r c i j))) cells-test r c i j hr hc hi hj)
 
 told : (r c i j : ℕ) → T (inside r c i j) → Inside r c i j
 told r c i j t =
@@ -112,7 +103,7 @@ in-window-linear t =
     (after (λ x. x * 256) (λ x. x / 2 ^ t / 256 % 4) (shifted-up 8)
     (after (λ x. x % 4) (λ x. x / 2 ^ t / 256) (lowest 2) (after (λ x. x / 256) (λ x. x / 2 ^ t) (shifted-down 8) (shifted-down t)))))
 
-window-test : T (each 7 (λ r. each 7 (λ c. each 64 (λ k. eqb (bitAnd (2 ^ k) (cellsOf r c)) (inWindow (bitOf r c) (2 ^ k))))))
+window-test : T (eachThree 7 7 64 (λ r c k. eqb (bitAnd (2 ^ k) (cellsOf r c)) (inWindow (bitOf r c) (2 ^ k))))
 window-test = tt
 
 window-filled : (r c : ℕ) → r < 7 → c < 7 → (x : ℕ) → x < 2 ^ 64 → bitAnd x (cellsOf r c) ≡ inWindow (bitOf r c) x
@@ -120,13 +111,7 @@ window-filled r c hr hc =
     same-maps 64 (λ x. bitAnd x (cellsOf r c)) (inWindow (bitOf r c)) (masked (cellsOf r c)) (in-window-linear (bitOf r c))
     (λ k h.
     eqb→eq (bitAnd (2 ^ k) (cellsOf r c)) (inWindow (bitOf r c) (2 ^ k))
-    (each-at 64 (λ k. eqb (bitAnd (2 ^ k) (cellsOf r c)) (inWindow (bitOf r c) (2 ^ k)))
-    (each-at 7 (λ c. each 64 (λ k. eqb (bitAnd (2 ^ k) (cellsOf r c)) (inWindow (bitOf r c) (2 ^ k))))
-    (each-at 7 (λ r. each 7 (λ c. each 64 (λ k. eqb (bitAnd (2 ^ k) (cellsOf r c)) (inWindow (bitOf r c) (2 ^ k))))) window-test r hr)
-    c
-    hc)
-    k
-    h))
+    (three-at 7 7 64 (λ r c k. eqb (bitAnd (2 ^ k) (cellsOf r c)) (inWindow (bitOf r c) (2 ^ k))) window-test r c k hr hc h))
 
 -- ---- each of them is found again from its parities
 
@@ -137,7 +122,7 @@ againFrom p z = eqb (smudgeFor (oddBytes z) (total 8 (byte z))) p
 again : ℕ → Bool
 again p = againFrom p (straight p)
 
-all-again : T (each 7 (λ r. each 7 (λ c. each 4 (λ a. each 4 (λ b. again (filled (bitOf r c) a b))))))
+all-again : T (eachFour 7 7 4 4 (λ r c a b. again (filled (bitOf r c) a b)))
 unfolding up left straight right down stagger oddBytes total byte onesIn crossings holding windowsWith firstOf firstWith smudgeFor trailingZeros again
 all-again = tt
 
@@ -145,17 +130,7 @@ found-again : (r c a b : ℕ) → r < 7 → c < 7 → a < 4 → b < 4
     → smudgeFor (oddRows (filled (bitOf r c) a b)) (columns (filled (bitOf r c) a b)) ≡ filled (bitOf r c) a b
 unfolding again
 found-again r c a b hr hc ha hb =
-    eqb→eq _ (filled (bitOf r c) a b)
-    (each-at 4 (λ b. again (filled (bitOf r c) a b))
-    (each-at 4 (λ a. each 4 (λ b. again (filled (bitOf r c) a b)))
-    (each-at 7 (λ c. each 4 (λ a. each 4 (λ b. again (filled (bitOf r c) a b))))
-    (each-at 7 (λ r. each 7 (λ c. each 4 (λ a. each 4 (λ b. again (filled (bitOf r c) a b))))) all-again r hr)
-    c
-    hc)
-    a
-    ha)
-    b
-    hb)
+    eqb→eq _ (filled (bitOf r c) a b) (four-at 7 7 4 4 (λ r c a b. again (filled (bitOf r c) a b)) all-again r c a b hr hc ha hb)
 
 -- a number that has nothing outside a window is found again from its parities
 pub inside-found : (r c p : ℕ) → r < 7 → c < 7 → p < 2 ^ 64 → bitAnd p (cellsOf r c) ≡ p → smudgeFor (oddRows p) (columns p) ≡ p
@@ -167,7 +142,7 @@ inside-found r c p hr hc h e =
 
 -- ---- and has at most four cells
 
-few-test : T (each 4 (λ a. each 4 (λ b. leb (lib.Count.ones (bitXor a (b * 256))) 4)))
+few-test : T (eachTwo 4 4 (λ a b. leb (lib.Count.ones (bitXor a (b * 256))) 4))
 unfolding lib.Count.ones
 few-test = tt
 
@@ -178,11 +153,7 @@ inside-few r c p hr hc h e =
     let b : ℕ = p / 2 ^ t / 256 % 4 in
     let f : p ≡ filled t a b = sym e ∙ window-filled r c hr hc p h in
     let few : lib.Count.ones (bitXor a (b * 256)) ≤ 4 =
-    leb→le (lib.Count.ones (bitXor a (b * 256))) 4
-    (each-at 4 (λ b. leb (lib.Count.ones (bitXor a (b * 256))) 4)
-    (each-at 4 (λ a. each 4 (λ b. leb (lib.Count.ones (bitXor a (b * 256))) 4)) few-test a (omega arith))
-    b
-    (omega arith))
+    leb→le (lib.Count.ones (bitXor a (b * 256))) 4 (two-at 4 4 (λ a b. leb (lib.Count.ones (bitXor a (b * 256))) 4) few-test a b (omega arith) (omega arith))
     in
     let shifted : lib.Count.ones (filled t a b) ≡ lib.Count.ones (bitXor a (b * 256)) + lib.Count.ones 0 =
     ap lib.Count.ones (sym (add-zero (filled t a b))) ∙ ones-cat t (bitXor a (b * 256)) 0 (pow-pos t)

@@ -1,7 +1,7 @@
 -- A block in one number, the cell in row i and column j at bit 8 i + j: what the functions inside this crate promise each other; no public promise rests on it.
 use mathlib.Core.Path.{_≡_}
 use mathlib.Core.List.{List, [], _∷_}
-use Prim.Native.Nat.{ℕ, zero, suc, _+_, _*_, _/_, _%_, _^_}
+use Prim.Native.Nat.{ℕ, zero, suc, _*_, _/_, _%_, _^_}
 use lib.Bits.{bitAnd, bitOr, bitXor}
 use lib.Count.{trailingZeros}
 use Rattle.numbers.specs.Total.{total}

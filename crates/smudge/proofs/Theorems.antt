@@ -1,6 +1,5 @@
 -- What is proved of blocks that outlast a smudge, in the words of the request.
 use mathlib.Core.Path.{_≡_, refl, sym, ap, _∙_}
-use mathlib.Core.Bool.{not}
 use mathlib.Core.List.{List, [], _∷_}
 use Prim.Native.Nat.{ℕ, _-_, _<_, _≤_, _^_}
 use lib.ListN.{length, replicate}

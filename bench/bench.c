@@ -1,9 +1,10 @@
 /* The benchmark: the library, libfec and the second program on the same words, interleaved, the minimum of many rounds.
  *
  * bench/run builds and runs it. A time is that of the whole call, from the caller's characters to the caller's line, number, distance
- * and changed addresses, or text; of a spool, that of one of its lines; of an open tray, that of one step. bench/words.h makes the words;
- * bench/ours.c has the library, bench/peers.c libfec, and plain C for what libfec has nothing of, bench/smudge_peer.c that of smudges.
- * Before anything is timed, all peers must give the same answers on all words. */
+ * and changed addresses, or text; of a spool, that of one of its lines or scans; of an open tray, that of one step. bench/words.h makes
+ * the words; bench/ours.c has the library, bench/peers.c libfec, and plain C for what libfec has nothing of, bench/smudge_peer.c that of
+ * smudges, and bench/clarity_peer.c that of how clear a scan is. Before anything is timed, all peers must give the same answers on all
+ * words. */
 #include "bench.h"
 #include "film.h"
 #include "words.h"
@@ -65,6 +66,9 @@ static row rows[] = {
     {"smudge_4_cells", SMUDGE, 4, 0, 0, {ours_smudge, plain_smudge, second_smudge}, NULL, {0}},
     {"smudge_noise_refused", SMUDGE_NOISE, 0, 0, 0, {ours_smudge, plain_smudge, second_smudge}, NULL, {0}},
     {"smudge_encode", SMUDGE_DATA, 0, 0, 0, {ours_encode_smudge, plain_encode_smudge, second_encode_smudge}, NULL, {0}},
+    {"clarity", CLARITY, BELL, 0, THRESHOLD, {ours_clarity, plain_clarity, second_clarity}, NULL, {0}},
+    {"clarity_no_spread", CLARITY, 0, 0, THRESHOLD, {ours_clarity, plain_clarity, second_clarity}, NULL, {0}},
+    {"clarity_spool", CLARITY_SPOOL, BELL, 0, THRESHOLD, {ours_clarity_spool, plain_clarity_spool, second_clarity_spool}, NULL, {0}},
 };
 
 enum { ROWS = sizeof rows / sizeof rows[0] };
@@ -123,7 +127,7 @@ static void print_times(int rounds) {
                 if (round == 0 || t < w->least[p])
                     w->least[p] = t;
             }
-    printf("nanoseconds a call, of a spool a line, of a tray a step, minimum of %d rounds (second: of %d)\n", rounds, (rounds + SELDOM - 1) / SELDOM);
+    printf("nanoseconds a call, of a spool a line or scan, of a tray a step, minimum of %d rounds (second: of %d)\n", rounds, (rounds + SELDOM - 1) / SELDOM);
     printf("%-24s %12s %12s %12s\n", "", peer_names[OURS], peer_names[FEC], peer_names[SECOND]);
     for (const row *w = rows; w < rows + ROWS; w++)
         printf("%-24s %12.1f %12.1f %12.1f\n", w->name, w->least[OURS], w->least[FEC], w->least[SECOND]);
@@ -134,7 +138,7 @@ static void print_times(int rounds) {
 }
 
 /* bench ROUNDS times everything; bench names prints the rows; bench once ROW PEER makes the calls of one row once, for callgrind, and prints
- * how many calls those are, or how many lines of spools or steps on trays. */
+ * how many calls those are, or how many lines or scans of spools or steps on trays. */
 int main(int argc, char **argv) {
     if (!prepare_peers())
         return 1;

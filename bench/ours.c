@@ -65,6 +65,10 @@ void ours_encode_smudge(const uint8_t *input, uint8_t radius, reply *r) {
     r->distance = 0, r->number = 0, r->length = FILM_SMUDGE;
 }
 
+void ours_clarity(const uint8_t *input, uint8_t threshold, reply *r) { set_scan(film_scan_clarity(input, FILM_CELLS, threshold), r); }
+
+void ours_clarity_spool(const uint8_t *input, uint8_t threshold, reply *r) { set_clarities(film_spool_clarity(input, FILM_SCANS, threshold), r); }
+
 void ours_products(const uint8_t *input, uint8_t radius, reply *r) {
     (void)radius;
     r->answer = 0, r->distance = 0, r->number = 0, r->length = 62;

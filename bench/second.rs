@@ -6,6 +6,8 @@
 mod block;
 #[path = "../second/blots.rs"]
 mod blots;
+#[path = "../second/clarity.rs"]
+mod clarity;
 #[path = "../second/code.rs"]
 mod code;
 #[path = "../second/encoder.rs"]
@@ -208,4 +210,16 @@ pub unsafe extern "C" fn second_smudge(input: *const u8, _: u8, r: &mut Reply) {
 pub unsafe extern "C" fn second_encode_smudge(input: *const u8, _: u8, r: &mut Reply) {
     let (numbers, out) = smudge::encode(from_raw_parts(input, smudge::DATA), &[0; smudge::SIDE]);
     r.set(numbers[0] as u8, 0, 0, &out);
+}
+
+#[no_mangle]
+pub unsafe extern "C" fn second_clarity(input: *const u8, threshold: u8, r: &mut Reply) {
+    let (numbers, doubles) = clarity::scan(from_raw_parts(input, clarity::CELLS), threshold);
+    r.set(numbers[0] as u8, 0, numbers[1] as u16, &doubles.map(u64::to_ne_bytes).concat());
+}
+
+#[no_mangle]
+pub unsafe extern "C" fn second_clarity_spool(input: *const u8, threshold: u8, r: &mut Reply) {
+    let numbers = clarity::spool(from_raw_parts(input, clarity::LONGEST), threshold);
+    r.set(numbers[0] as u8, 0, 0, &numbers[1..].iter().map(|&count| count as u8).collect::<Vec<u8>>());
 }

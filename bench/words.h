@@ -10,10 +10,10 @@
 enum { OURS = 0, FEC = 1, SECOND = 2, PEERS = 3 };
 
 /* How many words a row has. */
-enum { LINES = 128, RINGS = 4, SPOOLS = 8, SHEETS = 4, TRAYS = 4 };
+enum { LINES = 128, RINGS = 4, SPOOLS = 8, SHEETS = 4, TRAYS = 4, SCANNED = 64 };
 
 typedef enum { ENCODE, READ, SCANS, RING, NOISE, BLOCK, FIELD, PANEL, PANEL_RING, SPOOL, BLOTS, CLEAN_BLOTS, NOISE_LINE, SHEET, TRAY,
-               SMUDGE, SMUDGE_NOISE, SMUDGE_DATA } kind;
+               SMUDGE, SMUDGE_NOISE, SMUDGE_DATA, CLARITY, CLARITY_SPOOL } kind;
 
 /* Lines with one error in a spool of the mix. Table 1 of source document 001 has 849,085 single errors in 108,366,272 lines: 1.998 in 255. More errors than
  * one have 9,116 of its lines, 0.021 in 255 and 0.17 in the row's eight spools: nearest to that is none. */
@@ -28,6 +28,9 @@ enum { UNMENDED = 2 };
 /* Of smudges: the data rows; the rows at which a window may begin, as many columns, and all windows; two words for each; and the leap from one to the next,
  * which meets them all. */
 enum { DATA_ROWS = FILM_SMUDGE - 1, STARTS = FILM_SMUDGE - 1, WINDOWS = STARTS * STARTS, SMUDGES = 2 * WINDOWS, LEAP = 19 };
+
+/* Of scans of brightnesses: the threshold, how far from it the middles of the two bells are, and how far a bell reaches to either side of its middle. */
+enum { THRESHOLD = 128, MIDDLE = 64, BELL = 48 };
 
 typedef struct {
     const char *name;
@@ -112,6 +115,16 @@ static void make_smudge(uint8_t *rows, int wrong) {
     rows[row] ^= (uint8_t)((filling & 3) << column);
     rows[row + 1] ^= (uint8_t)(filling >> 2 << column);
     window = (window + LEAP) % WINDOWS;
+}
+
+/* Each of so many cells is in one of two bells, which reach so far: where that is 0 each side is of one brightness. */
+static void make_cells(uint8_t *cells, int count, int reach) {
+    for (int i = 0; i < count; i++) {
+        int cell = (below(2) == 0 ? THRESHOLD - MIDDLE : THRESHOLD + MIDDLE) - reach;
+        for (int part = 0; part < 4; part++)
+            cell += (int)below((uint64_t)reach / 2 + 1);
+        cells[i] = (uint8_t)cell;
+    }
 }
 
 static void make_word(const row *w, uint8_t *word) {
@@ -205,6 +218,12 @@ static void make_word(const row *w, uint8_t *word) {
     case SMUDGE_DATA:
         bytes_below(128, word, DATA_ROWS);
         return;
+    case CLARITY:
+        make_cells(word, FILM_CELLS, w->wrong);
+        return;
+    case CLARITY_SPOOL:
+        make_cells(word, FILM_SCANS, w->wrong);
+        return;
     case BLOTS:
     case CLEAN_BLOTS: { /* so many characters are wrong outside the blots; at the blots all are, or none in a clean word, of which a copy is changed */
         uint8_t *map = word + 63, changed[63];
@@ -218,8 +237,8 @@ static void make_word(const row *w, uint8_t *word) {
     }
 }
 
-/* Two scans are two words, one after the other, a word with blots has its map after it, a spool is 255 words, a sheet 63, and an edited tray as many as it
- * needs. */
+/* Two scans are two words, one after the other, a word with blots has its map after it, a spool is 255 words, a sheet 63, a scan of brightnesses 6, a
+ * spool of them 255 times as many, and an edited tray as many as it needs. */
 static int stride(const row *w) {
     switch (w->of) {
     case SCANS:
@@ -230,6 +249,10 @@ static int stride(const row *w) {
         return FILM_PLACES;
     case SHEET:
         return FILM_CHARACTERS;
+    case CLARITY:
+        return FILM_CELLS / FILM_CHARACTERS;
+    case CLARITY_SPOOL:
+        return FILM_SCANS / FILM_CHARACTERS;
     case TRAY:
         return (int)(sizeof(edited_tray) + FILM_CHARACTERS - 1) / FILM_CHARACTERS;
     default:
@@ -238,11 +261,30 @@ static int stride(const row *w) {
 }
 
 static int words_of(const row *w) {
-    int is_ring = w->of == RING || w->of == NOISE || w->of == PANEL_RING;
-    return is_ring ? RINGS : w->of == SPOOL ? SPOOLS : w->of == SHEET ? SHEETS : w->of == TRAY ? TRAYS : w->of == SMUDGE ? SMUDGES : LINES / stride(w);
+    switch (w->of) {
+    case RING:
+    case NOISE:
+    case PANEL_RING:
+        return RINGS;
+    case SPOOL:
+    case CLARITY_SPOOL:
+        return SPOOLS;
+    case SHEET:
+        return SHEETS;
+    case TRAY:
+        return TRAYS;
+    case SMUDGE:
+        return SMUDGES;
+    case CLARITY:
+        return SCANNED;
+    default:
+        return LINES / stride(w);
+    }
 }
 
-/* What the cost is given for: a call, but of a spool a line, and of an edited tray a step. */
-static int parts_of(const row *w) { return words_of(w) * (w->of == SPOOL ? FILM_PLACES : w->of == TRAY ? 2 * EDITS : 1); }
+/* What the cost is given for: a call, but of a spool a line or a scan, and of an edited tray a step. */
+static int parts_of(const row *w) {
+    return words_of(w) * (w->of == SPOOL ? FILM_PLACES : w->of == CLARITY_SPOOL ? FILM_SCANS / FILM_CELLS : w->of == TRAY ? 2 * EDITS : 1);
+}
 
 #endif

@@ -1,7 +1,9 @@
 /* Faults that the fuzz target has to find: each stands between the target and the library. `fuzz/run faults` builds one after the other.
- * sheet_faults.h has those of sheets, open_tray_faults.h those of open trays, and smudge_faults.h those of smudges.
+ * sheet_faults.h has those of sheets, open_tray_faults.h those of open trays, smudge_faults.h those of smudges, and clarity_faults.h those of
+ * how clear a scan is.
  *
  * It is built without sanitizers, as the library is. */
+#include "clarity_faults.h"
 #include "film.h"
 #include "open_tray_faults.h"
 #include "sheet_faults.h"

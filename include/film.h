@@ -3,8 +3,8 @@
  * Link target/film/libfilm.a or target/film/libfilm.so (tools/build-library makes both); x86-64 Linux.
  *
  * A slice is a pointer and a length. The pointer has to be good for that many bytes; where the length is 0 it may be
- * NULL. An output must not overlap an input. Nothing else is asked of a caller: any lengths, any bytes and any numbers
- * are taken and answered.
+ * NULL. An output must not overlap an input. Nothing else is asked of a caller, but for the rounding of doubles (see how
+ * clear a scan is): any lengths, any bytes and any numbers are taken and answered.
  *
  * Every function but film_version answers 0 when it is done, and else one of the refusals below. A refusal's other fields
  * are 0, and the output is as it was; 16 alone, an improper sheet, keeps its other field and writes its output. Nothing is
@@ -27,7 +27,7 @@ extern "C" {
 /* ---- The version of this header. tools/tables writes its three numbers from version.txt. */
 
 #define FILM_VERSION_MAJOR 4
-#define FILM_VERSION_MINOR 7
+#define FILM_VERSION_MINOR 8
 #define FILM_VERSION_PATCH 0
 #define FILM_VERSION (1000000 * FILM_VERSION_MAJOR + 1000 * FILM_VERSION_MINOR + FILM_VERSION_PATCH)
 
@@ -40,7 +40,7 @@ uint32_t film_version(void);
 
 enum {
     FILM_DONE = 0,
-    FILM_INPUT_LENGTH = 1,      /* a line, ring or map of blots is not 63 long, a text is not 50 long, a sheet is not 3,969 long, its texts are not 2,600 long or its numbers not 52, or a spool's length is no multiple of 63 or is over 16,065 */
+    FILM_INPUT_LENGTH = 1,      /* a line, ring or map of blots is not 63 long, a text is not 50 long, a sheet is not 3,969 long, its texts are not 2,600 long or its numbers not 52, a spool's length is no multiple of 63 or is over 16,065, a scan of brightnesses is not 378 long, or the length of a spool of them is no multiple of 378 or is over 96,390 */
     FILM_VALUE_OVER = 2,        /* a character (a register's too) or field operand is over 63, a data row over 127, or a byte of a map over 1 */
     FILM_RADIUS_OVER = 3,       /* radius over 5 */
     FILM_NUMBER_OVER = 4,       /* number over 4095 */
@@ -59,7 +59,8 @@ enum {
     FILM_TRAY_UNFIT = 17,       /* an open tray claims over 64 lines or a count above them; adding, where 64 are held; replacing and dropping, last, where the line has a character or sum over 63, or a sum not 0 at count 0 */
     FILM_LINE_NOT_HELD = 18,    /* replacing: the line asked for is not there; dropping: no line is left */
     FILM_ADDRESS_OVER = 19,     /* an address over 62 */
-    FILM_LAST_REFUSAL = 19      /* the highest of these numbers */
+    FILM_ONE_SIDED = 20,        /* a scan of brightnesses in which no cell is dark, or none is bright */
+    FILM_LAST_REFUSAL = 20      /* the highest of these numbers */
 };
 
 /* ---- Lengths, in bytes. */
@@ -72,6 +73,8 @@ enum {
     FILM_TEXTS = 2600,    /* the texts of a sheet's first 52 lines */
     FILM_TRAY = 4738,     /* an open tray: sizeof(film_tray) */
     FILM_SPOOL = 16065,   /* the longest spool, 255 lines; the output of reading a spool is as long as the spool */
+    FILM_CELLS = 378,     /* the brightnesses of a scan, a byte for each cell of a line */
+    FILM_SCANS = 96390,   /* the longest spool of such scans, 255 of them */
     FILM_PANEL = 294,     /* the least output of panel text, and the longest text for a panel */
     FILM_CHECKS = 11,     /* a register's characters, and the checks */
     FILM_SMUDGE = 8       /* a block that outlasts a smudge, and the output of encoding and reading it */
@@ -258,6 +261,40 @@ typedef struct film_choice {
 
 /* Which scan to keep. Refusals, those of the first scan where both are refused: 1, 2, 3, 6. */
 film_choice film_better_scan(const uint8_t *first, size_t first_len, const uint8_t *second, size_t second_len, uint8_t radius);
+
+/* ---- How clear a scan is: the brightness of each of the 378 cells of a line, 0 to 255, and a threshold. A cell below the
+ * threshold is dark, any other bright. With n cells on a side, their sum s and the sum of their squares q (1 dark, 2 bright)
+ * the ratio is (s2 n1 - s1 n2)^2 / (n2^2 (n1 q1 - s1^2) + n1^2 (n2 q2 - s2^2)): both are whole numbers below 2^53, exact as
+ * doubles, and their quotient is rounded once, to the nearest double. It is the square of the distance of the two means over
+ * the sum of the two variances: the greater, the clearer. The division is the processor's own: a program that has set
+ * another rounding (fesetround) sets it back to the nearest before it calls. */
+
+enum {
+    FILM_RATIO = 0,    /* a kind: a ratio */
+    FILM_NO_SPREAD = 1 /* a kind: the cells of each side are all alike, the denominator is 0, and there is no ratio */
+};
+
+typedef struct film_scan {
+    uint8_t answer;
+    uint8_t kind;  /* FILM_RATIO or FILM_NO_SPREAD; 0 in a refusal */
+    double ratio;  /* above 0.0; 0.0 where there is no spread, and in a refusal */
+    double dark;   /* the mean of the dark cells, s1 / n1 rounded once; 0.0 in a refusal, and where they all are 0 */
+    double bright; /* the mean of the bright ones, s2 / n2 rounded once; 0.0 in a refusal */
+} film_scan;
+
+/* The clarity of one scan, 378 cells. Any threshold is taken: at 0 no cell is dark. Refusals: 1, 20. */
+film_scan film_scan_clarity(const uint8_t *cells, size_t cells_len, uint8_t threshold);
+
+typedef struct film_clarities {
+    uint8_t answer;
+    uint8_t ratios;     /* how many scans have a ratio */
+    uint8_t no_spreads; /* how many have no spread */
+    uint8_t refusals;   /* how many are refused, with 20 */
+} film_clarities;
+
+/* Counts what film_scan_clarity answers for each of up to 255 scans, one after the other, with one threshold: the three counts
+ * add up to the scans. A refused scan stops no other; no scans are fine. Refusals: 1. */
+film_clarities film_spool_clarity(const uint8_t *cells, size_t cells_len, uint8_t threshold);
 
 /* ---- A ring of 63 characters. Start k from 0 to 62 is forward: address a is taken from ring place (k + a) mod 63. Start
  * 63 + s, with s from 0 to 62, is backward: address a is taken from place (s - a) mod 63. */

@@ -7,6 +7,7 @@ mod adding;
 mod block;
 mod blots;
 mod changes;
+mod clarity;
 mod encoder;
 mod even;
 mod false_starts;
@@ -53,14 +54,16 @@ const ENCODE_SHEET: Call = Call(21, "encode_sheet");
 const OPEN_TRAY: Call = Call(22, "open_tray");
 const ENCODE_SMUDGE: Call = Call(23, "encode_smudge");
 const READ_SMUDGE: Call = Call(24, "read_smudge");
+const SCAN_CLARITY: Call = Call(25, "scan_clarity");
+const SPOOL_CLARITY: Call = Call(26, "spool_clarity");
 
 /// What is handed over: the head's fields, and the input.
 struct Case<'a> {
     call: Call,
-    /// A radius, an operand, a character or a byte of a tray.
+    /// A radius, an operand, a character, a byte of a tray or a threshold.
     small: u8,
-    /// The number of a line, a wanted one, a register's count, or a length: of the first of two scans, of a word before its map, of texts before numbers or of
-    /// lines before steps.
+    /// The number of a line, a wanted one, a register's count, or a length: of the first of two scans, of a word before its map, of texts before numbers, of
+    /// lines before steps or of the part of a spool that stands in it twice.
     number: u16,
     /// The length of the output that is lent.
     room: usize,
@@ -130,6 +133,7 @@ pub fn stored() -> (Vec<u8>, String) {
         sheets::add_all,
         open_trays::add_all,
         smudges::add_all,
+        clarity::add_all,
     ];
     for add_all in sections {
         add_all(&mut cases);

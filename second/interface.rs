@@ -53,6 +53,23 @@ pub struct Choice {
 }
 
 #[repr(C)]
+pub struct Scan {
+    pub answer: u8,
+    pub kind: u8,
+    pub ratio: f64,
+    pub dark: f64,
+    pub bright: f64,
+}
+
+#[repr(C)]
+pub struct Clarities {
+    pub answer: u8,
+    pub ratios: u8,
+    pub no_spreads: u8,
+    pub refusals: u8,
+}
+
+#[repr(C)]
 pub struct List {
     pub answer: u8,
     pub count: u8,
@@ -117,6 +134,8 @@ extern "C" {
     pub fn film_tray_count(tray: *const Tray) -> Count;
     pub fn film_read_blotted(word: *const u8, word_len: usize, map: *const u8, map_len: usize, out: *mut u8, out_len: usize) -> Line;
     pub fn film_better_scan(first: *const u8, first_len: usize, second: *const u8, second_len: usize, radius: u8) -> Choice;
+    pub fn film_scan_clarity(cells: *const u8, cells_len: usize, threshold: u8) -> Scan;
+    pub fn film_spool_clarity(cells: *const u8, cells_len: usize, threshold: u8) -> Clarities;
     pub fn film_list_ring(ring: *const u8, ring_len: usize, radius: u8, out: *mut u8, out_len: usize) -> List;
     pub fn film_read_ring(ring: *const u8, ring_len: usize, radius: u8, out: *mut u8, out_len: usize) -> Ring;
     pub fn film_panel_text(text: *const u8, text_len: usize, out: *mut u8, out_len: usize) -> Panel;

@@ -4,8 +4,8 @@
 //! tools/compare-library builds and runs it: library ROUNDS [SEED]. Each output lies between two rows of bytes that must stay, and so does each
 //! input, which must stay too. All pairs of operands are tried, every length up to 300, a byte that is too high at every place, and the rows of the
 //! bench sheet; the rest is random, and the same in every run with that seed. second/library/ has the calls of lines, in the library's way and in the
-//! paper's, of registers, of spools, of sheets, of open trays, with blots, with smudges and for a panel, and what the change requests speak of. At the end each
-//! call must have given each answer that it can give.
+//! paper's, of registers, of spools, of sheets, of open trays, with blots, with smudges, of how clear scans are and for a panel, and what the change requests
+//! speak of. At the end each call must have given each answer that it can give.
 
 // Of the second program only what answers is called here; what writes the stored files is not.
 #![allow(dead_code)]
@@ -17,6 +17,9 @@ mod block;
 mod blots;
 #[path = "library/blots.rs"]
 mod blotted;
+#[path = "library/clarity.rs"]
+mod clarities;
+mod clarity;
 mod code;
 mod encoder;
 mod even;
@@ -67,7 +70,7 @@ use std::fmt::Debug;
 use std::process::exit;
 
 /// The version that the library has to tell. tools/tables writes it from version.txt.
-const VERSION: u32 = 4007000;
+const VERSION: u32 = 4008000;
 
 const UNTOUCHED: u8 = 170;
 
@@ -355,6 +358,7 @@ fn main() {
     comparison.sheets();
     comparison.open_trays();
     comparison.smudges();
+    comparison.clarities();
     for i in 0..rounds {
         comparison.round(i % 8 == 0);
         if i % 8 == 0 {
@@ -369,6 +373,7 @@ fn main() {
             comparison.any_blots();
             comparison.any_paper();
             comparison.any_smudge();
+            comparison.any_clarity();
         }
         if i % 64 == 0 {
             comparison.by_the_character();

@@ -8,6 +8,7 @@ mod adding;
 mod block;
 mod blots;
 mod cases;
+mod clarity;
 mod code;
 mod compare;
 mod encoder;

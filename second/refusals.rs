@@ -3,7 +3,7 @@
 // A number that no rule here answers is no mistake.
 #![allow(dead_code)]
 
-/// A line, ring or map of blots is not 63 long, a text is not 50 long, a sheet is not 3,969 long, its texts are not 2,600 long or its numbers not 52, or a spool's length is no multiple of 63 or is over 16,065.
+/// A line, ring or map of blots is not 63 long, a text is not 50 long, a sheet is not 3,969 long, its texts are not 2,600 long or its numbers not 52, a spool's length is no multiple of 63 or is over 16,065, a scan of brightnesses is not 378 long, or the length of a spool of them is no multiple of 378 or is over 96,390.
 pub const INPUT_LENGTH: u8 = 1;
 /// A character (a register's too) or field operand is over 63, a data row over 127, or a byte of a map over 1.
 pub const VALUE_OVER: u8 = 2;
@@ -41,3 +41,5 @@ pub const TRAY_UNFIT: u8 = 17;
 pub const LINE_NOT_HELD: u8 = 18;
 /// An address over 62.
 pub const ADDRESS_OVER: u8 = 19;
+/// A scan of brightnesses in which no cell is dark, or none is bright.
+pub const ONE_SIDED: u8 = 20;

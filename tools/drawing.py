@@ -15,10 +15,10 @@ def arrow(tip, left, right, colour, filled):
     return path([tip, left, right], f'fill="{colour if filled else WHITE}" stroke="{colour}" stroke-width="2"')
 
 
-def framed(head, width, height, elements, described=()):
-    """A picture as a file's text, with its head as title for whoever does not see it, and a description where there is one."""
+def framed(head, width, height, elements, described=(), writer="tools/tables"):
+    """A picture as a file's text, with its head as title for whoever does not see it, a description where there is one, and the tool that writes it."""
     lines = [
-        f"<!-- {head} tools/tables writes it. -->",
+        f"<!-- {head} {writer} writes it. -->",
         f'<svg xmlns="http://www.w3.org/2000/svg" viewBox="0 0 {width} {height}" width="{width}" height="{height}" role="img" '
         'font-family="Helvetica, Arial, sans-serif" font-size="14">',
         f"<title>{head.removesuffix('.')}</title>",

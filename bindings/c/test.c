@@ -1,4 +1,4 @@
-/* Tests of include/film.h, but for spools, sheets, open trays, smudges, blots and the method of 1968: what each
+/* Tests of include/film.h, but for spools, sheets, open trays, the clarity of scans, smudges, blots and the method of 1968: what each
  * function gives, every refusal by its number, and outputs that stay as they were, to either side too. It compiles as C and as C++. */
 #include "expect.h"
 #include "field.h"

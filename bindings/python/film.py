@@ -1,5 +1,5 @@
-"""The proved film reader: lines, with blots too, spools, sheets, open trays, rings, text for a panel and parity blocks, and the field and the register below
-them.
+"""The proved film reader: lines, with blots too, spools, sheets, open trays, the clarity of scans, rings, text for a panel and parity blocks, and the field and
+the register below them.
 
 Every function takes whatever bytes and numbers it is handed. It gives back what it found, or raises Refused, which says by number why not.
 A character is a byte from 0 to 63, and a line is 63 of them.
@@ -19,11 +19,11 @@ from typing import Optional
 
 import film_library
 import film_tray
-from film_library import as_bytes as _bytes, bounded as _bounded, byte as _byte
-from film_readings import BlockRead, LineRead, RingRead, SheetRead
+from film_library import answered as _answered, as_bytes as _bytes, bounded as _bounded, byte as _byte, threshold as _threshold
+from film_readings import BlockRead, Clarities, LineRead, RingRead, Scan, SheetRead
 
 # tools/tables writes this from version.txt, and the refusals below from refusals.txt.
-__version__ = "4.7.0"
+__version__ = "4.8.0"
 
 # In the place of an address: nothing was changed.
 NOWHERE = 63
@@ -43,6 +43,10 @@ TRAY = film_tray.BYTES
 TRAY_LINES = film_library.TRAY_LINES
 SUMS = film_library.SUMS
 
+# The brightnesses of a scan, one for each cell of a line, and the most bytes of a spool of such scans.
+CELLS = 378
+SCANS = CELLS * PLACES
+
 # The least output of panel text, and the longest text for a panel.
 PANEL = 294
 
@@ -51,7 +55,7 @@ SMUDGE = 8
 
 # The numbered answers, as the paper gives them; 0 is a success.
 REFUSALS = {
-    1: "a line, ring or map of blots is not 63 long, a text is not 50 long, a sheet is not 3,969 long, its texts are not 2,600 long or its numbers not 52, or a spool's length is no multiple of 63 or is over 16,065",
+    1: "a line, ring or map of blots is not 63 long, a text is not 50 long, a sheet is not 3,969 long, its texts are not 2,600 long or its numbers not 52, a spool's length is no multiple of 63 or is over 16,065, a scan of brightnesses is not 378 long, or the length of a spool of them is no multiple of 378 or is over 96,390",
     2: "a character (a register's too) or field operand is over 63, a data row over 127, or a byte of a map over 1",
     3: "radius over 5",
     4: "number over 4095",
@@ -70,6 +74,7 @@ REFUSALS = {
     17: "an open tray claims over 64 lines or a count above them; adding, where 64 are held; replacing and dropping, last, where the line has a character or sum over 63, or a sum not 0 at count 0",
     18: "replacing: the line asked for is not there; dropping: no line is left",
     19: "an address over 62",
+    20: "a scan of brightnesses in which no cell is dark, or none is bright",
 }
 
 
@@ -95,16 +100,6 @@ class ImproperSheet(Refused):
 _library = film_library.load(film_library.shared_library(), int(__version__.split(".")[0]))
 
 
-def _answered(function, given, *others, room, out):
-    """Calls a function with an input, what it takes besides and an output: gives what it answers, a refusal too, and the output as it is then."""
-    given = _bytes(given)
-    if out is None:
-        out = bytearray(room)
-    lent = (film_library.u8 * len(out)).from_buffer(out)
-    result = function(given, len(given), *others, lent, len(out))
-    return result, bytes(out)
-
-
 def _done(result):
     """What was answered, an answer alone or a struct that has one; a refusal is raised."""
     answer = result if isinstance(result, int) else result.answer
@@ -114,7 +109,7 @@ def _done(result):
 
 
 def _call(function, given, *others, room, out):
-    """As _answered, but that a refusal is raised."""
+    """As film_library.answered, but that a refusal is raised."""
     result, written = _answered(function, given, *others, room=room, out=out)
     return _done(result), written
 
@@ -290,6 +285,26 @@ def better_scan(first, second, radius):
     one, other = _bytes(first), _bytes(second)
     result = _done(_library.film_better_scan(one, len(one), other, len(other), _byte(radius)))
     return first if result.scan == 1 else second
+
+
+def scan_clarity(cells, threshold) -> Scan:
+    """How clear a scan is, from the brightness of each of CELLS cells; one below the threshold is dark, any other bright. With n cells on a side, their sum s
+    and the sum of their squares q (1 dark, 2 bright) the ratio is (s2 n1 - s1 n2)² / (n2² (n1 q1 - s1²) + n1² (n2 q2 - s2²)), rounded once.
+
+    >>> cells = bytes([10, 30] * 100 + [200, 220] * 89)
+    >>> scan_clarity(cells, 128)
+    Scan(ratio=180.5, dark=20.0, bright=210.0)
+    """
+    cells = _bytes(cells)
+    result = _done(_library.film_scan_clarity(cells, len(cells), _threshold(threshold)))
+    return Scan(result.ratio if result.kind == film_library.RATIO else None, result.dark, result.bright)
+
+
+def spool_clarity(cells, threshold) -> Clarities:
+    """Counts what scan_clarity gives and raises for each of up to PLACES scans, one after the other, with one threshold. A refused scan stops no other."""
+    cells = _bytes(cells)
+    result = _done(_library.film_spool_clarity(cells, len(cells), _threshold(threshold)))
+    return Clarities(result.ratios, result.no_spreads, result.refusals)
 
 
 def list_ring(ring, radius, out: Optional[bytearray] = None) -> "list[int]":

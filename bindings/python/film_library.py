@@ -1,5 +1,5 @@
-"""The library's structs and functions as include/film.h declares them, numbers and bytes as it takes them, and the loading of a library: film.py, which
-programs import, calls what is loaded."""
+"""The library's structs and functions as include/film.h declares them, numbers, bytes and outputs as it takes them, and the loading of a library: film.py,
+which programs import, calls what is loaded."""
 
 import ctypes
 import os
@@ -11,6 +11,9 @@ _u32 = ctypes.c_uint32
 
 # The most lines of a spool.
 PLACES = 255
+
+# The kind of a scan that has a ratio; there is one other, of a scan with no spread.
+RATIO = 0
 
 # How many characters and how many power sums a line of an open tray has, and the most lines that a tray holds.
 CHARACTERS = 63
@@ -48,6 +51,14 @@ class Count(ctypes.Structure):
 
 class Choice(ctypes.Structure):
     _fields_ = [("answer", u8), ("scan", u8)]
+
+
+class Scan(ctypes.Structure):
+    _fields_ = [("answer", u8), ("kind", u8), ("ratio", ctypes.c_double), ("dark", ctypes.c_double), ("bright", ctypes.c_double)]
+
+
+class Clarities(ctypes.Structure):
+    _fields_ = [("answer", u8), ("ratios", u8), ("no_spreads", u8), ("refusals", u8)]
 
 
 class List(ctypes.Structure):
@@ -89,11 +100,28 @@ def byte(number):
     return bounded(number, 255)
 
 
+def threshold(number):
+    """A threshold as the library takes it. One that is too large for a byte is not handed on as the largest, since that is not refused."""
+    if number > 255:
+        raise ValueError("a threshold over 255")
+    return byte(number)
+
+
 def as_bytes(given):
     """Bytes, or what bytes() makes of a list of numbers."""
     if isinstance(given, int):
         raise TypeError("bytes are needed, not a number")
     return bytes(given)
+
+
+def answered(function, given, *others, room, out):
+    """Calls a function with an input, what it takes besides and an output: gives what it answers, a refusal too, and the output as it is then."""
+    given = as_bytes(given)
+    if out is None:
+        out = bytearray(room)
+    lent = (u8 * len(out)).from_buffer(out)
+    result = function(given, len(given), *others, lent, len(out))
+    return result, bytes(out)
 
 
 def _check_version(library, path, own):
@@ -140,6 +168,8 @@ def load(path, own):
         ("tray_drop", tray, u8),
         ("tray_count", tray, Count),
         ("better_scan", given + given + [u8], Choice),
+        ("scan_clarity", given + [u8], Scan),
+        ("spool_clarity", given + [u8], Clarities),
         ("list_ring", given + [u8] + output, List),
         ("read_ring", given + [u8] + output, Ring),
         ("panel_text", given + output, Panel),

@@ -1,6 +1,6 @@
-"""What reading gives, each part by its name: a line, a sheet, a line of a ring or a block; film.py, which programs import, gives them."""
+"""What reading gives, each part by its name: a line, a sheet, a line of a ring, a block or how clear scans are; film.py, which programs import, gives them."""
 
-from typing import NamedTuple
+from typing import NamedTuple, Optional
 
 
 class LineRead(NamedTuple):
@@ -37,3 +37,19 @@ class BlockRead(NamedTuple):
 
     rows: bytes
     distance: int
+
+
+class Scan(NamedTuple):
+    """How clear a scan is: the ratio, or None where there is no spread, and the means of the dark and of the bright cells, each rounded once."""
+
+    ratio: Optional[float]
+    dark: float
+    bright: float
+
+
+class Clarities(NamedTuple):
+    """How many scans of a spool have a ratio, have no spread and are refused with 20; together they are all of its scans."""
+
+    ratios: int
+    no_spreads: int
+    refusals: int

@@ -1,5 +1,5 @@
-"""Tests of film.py, but for sheets, open trays, smudges, blots and the method of 1968: what each function gives, every refusal by its number, and outputs that
-stay as they were."""
+"""Tests of film.py, but for sheets, open trays, the clarity of scans, smudges, blots and the method of 1968: what each function gives, every refusal by its
+number, and outputs that stay as they were."""
 
 import doctest
 import itertools

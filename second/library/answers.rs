@@ -1,5 +1,6 @@
 //! Which answers each call of the comparison can give, and whether each was given.
 
+use crate::clarities::{ANOTHER_LENGTH, HAS_NO_SPREAD, HAS_RATIO, NONE_BRIGHT, NONE_DARK};
 use crate::refusals::*;
 use crate::sheet_calls::READ_SHEET;
 use crate::smudges::{READ_SMUDGE, REFUSED_SMUDGE};
@@ -9,9 +10,9 @@ use std::collections::BTreeMap;
 pub type Given = BTreeMap<(&'static str, usize), u64>;
 
 /// Each call, and every answer that it can give. A spool's line and an unblotted one, a word with no blot, are read alone, by film_read_line; reading a
-/// sheet is another call for each number of rounds, reading with a smudge for each number of wrong cells, and what is asked of an open tray for each cause of
-/// 17 and each way that the count goes.
-const ANSWERS: [(&str, &[u8]); 57] = [
+/// sheet is another call for each number of rounds, reading with a smudge for each number of wrong cells, how clear a scan is for each kind and each cause of
+/// 20, and what is asked of an open tray for each cause of 17 and each way that the count goes.
+const ANSWERS: [(&str, &[u8]); 63] = [
     ("sum", &[0, VALUE_OVER]),
     ("product", &[0, VALUE_OVER]),
     ("quotient", &[0, VALUE_OVER, QUOTIENT_BY_ZERO]),
@@ -54,6 +55,12 @@ const ANSWERS: [(&str, &[u8]); 57] = [
     ("read_blotted", &[0, INPUT_LENGTH, VALUE_OVER, OUTPUT_LENGTH, NO_LINE]),
     ("unblotted_line", &[0, INPUT_LENGTH, VALUE_OVER, OUTPUT_LENGTH, NO_LINE]),
     ("better_scan", &[0, INPUT_LENGTH, VALUE_OVER, RADIUS_OVER, NO_LINE]),
+    (ANOTHER_LENGTH, &[INPUT_LENGTH]),
+    (NONE_DARK, &[ONE_SIDED]),
+    (NONE_BRIGHT, &[ONE_SIDED]),
+    (HAS_RATIO, &[0]),
+    (HAS_NO_SPREAD, &[0]),
+    ("spool_clarity", &[0, INPUT_LENGTH]),
     ("list_ring", &[0, INPUT_LENGTH, VALUE_OVER, RADIUS_OVER, OUTPUT_LENGTH]),
     ("read_ring", &[0, INPUT_LENGTH, VALUE_OVER, RADIUS_OVER, OUTPUT_LENGTH, NO_LINE, MANY_STARTS]),
     ("panel_text", &[0, INPUT_LENGTH, VALUE_OVER, OUTPUT_LENGTH, TEMPLATE, UNKNOWN_KIND]),

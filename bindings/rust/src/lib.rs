@@ -1,5 +1,5 @@
-//! The proved film reader: lines, with blots too, spools, sheets, open trays, rings, text for a panel and parity blocks, and the field and the register below
-//! them.
+//! The proved film reader: lines, with blots too, spools, sheets, open trays, the clarity of scans, rings, text for a panel and parity blocks, and the field
+//! and the register below them.
 //!
 //! Every function takes whatever slices and numbers it is handed. It answers what it found, or the [`Refusal`] that says by number why not;
 //! then the output, or the tray, is as it was, but for a sheet that is not proper after reading ([`SheetRefusal::Improper`]). A character is a byte from 0 to
@@ -21,6 +21,7 @@
 #![no_std]
 #![deny(missing_docs)]
 
+mod clarity;
 mod library;
 mod open_tray;
 mod refusal;
@@ -28,6 +29,7 @@ mod sheet;
 mod smudge;
 mod spool;
 
+pub use clarity::{scan_clarity, spool_clarity, Clarities, Clarity, Means, Scan, CELLS, SCANS};
 pub use open_tray::{OpenTray, SUMS, TRAY, TRAY_LINES};
 pub use refusal::Refusal;
 pub use sheet::{encode_sheet, read_sheet, SheetRefusal, NUMBERS, ROUNDS, SHEET, TEXTS};
@@ -39,7 +41,7 @@ const LINE: usize = 63;
 
 /// The version that this crate was made for: a million times the major number, a thousand times the minor, and the patch. It is the crate's own;
 /// tools/tables writes it from version.txt.
-pub const VERSION: u32 = 4007000;
+pub const VERSION: u32 = 4008000;
 
 /// The version of the library that is linked, written as [`VERSION`] is.
 pub fn version() -> u32 {

@@ -41,6 +41,26 @@ pub struct Choice {
     pub scan: u8,
 }
 
+/// The kind of a scan that has a ratio; there is one other, of a scan with no spread.
+pub const RATIO: u8 = 0;
+
+#[repr(C)]
+pub struct Scan {
+    pub answer: u8,
+    pub kind: u8,
+    pub ratio: f64,
+    pub dark: f64,
+    pub bright: f64,
+}
+
+#[repr(C)]
+pub struct Clarities {
+    pub answer: u8,
+    pub ratios: u8,
+    pub no_spreads: u8,
+    pub refusals: u8,
+}
+
 #[repr(C)]
 pub struct List {
     pub answer: u8,
@@ -101,6 +121,8 @@ extern "C" {
     fn film_tray_drop(tray: *mut OpenTray) -> u8;
     fn film_tray_count(tray: *const OpenTray) -> Count;
     fn film_better_scan(first: *const u8, first_len: usize, second: *const u8, second_len: usize, radius: u8) -> Choice;
+    fn film_scan_clarity(cells: *const u8, cells_len: usize, threshold: u8) -> Scan;
+    fn film_spool_clarity(cells: *const u8, cells_len: usize, threshold: u8) -> Clarities;
     fn film_list_ring(ring: *const u8, ring_len: usize, radius: u8, out: *mut u8, out_len: usize) -> List;
     fn film_read_ring(ring: *const u8, ring_len: usize, radius: u8, out: *mut u8, out_len: usize) -> Ring;
     fn film_panel_text(text: *const u8, text_len: usize, out: *mut u8, out_len: usize) -> Panel;
@@ -186,6 +208,14 @@ pub fn tray_count(tray: &OpenTray) -> Count {
 
 pub fn better_scan(first: &[u8], second: &[u8], radius: u8) -> Choice {
     unsafe { film_better_scan(first.as_ptr(), first.len(), second.as_ptr(), second.len(), radius) }
+}
+
+pub fn scan_clarity(cells: &[u8], threshold: u8) -> Scan {
+    unsafe { film_scan_clarity(cells.as_ptr(), cells.len(), threshold) }
+}
+
+pub fn spool_clarity(cells: &[u8], threshold: u8) -> Clarities {
+    unsafe { film_spool_clarity(cells.as_ptr(), cells.len(), threshold) }
 }
 
 pub fn list_ring(ring: &[u8], radius: u8, out: &mut [u8]) -> List {

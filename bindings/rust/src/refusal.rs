@@ -6,7 +6,7 @@ use core::fmt;
 #[derive(Clone, Copy, Debug, PartialEq, Eq, Hash)]
 #[non_exhaustive]
 pub enum Refusal {
-    /// A line, ring or map of blots is not 63 long, a text is not 50 long, a sheet is not 3,969 long, its texts are not 2,600 long or its numbers not 52, or a spool's length is no multiple of 63 or is over 16,065.
+    /// A line, ring or map of blots is not 63 long, a text is not 50 long, a sheet is not 3,969 long, its texts are not 2,600 long or its numbers not 52, a spool's length is no multiple of 63 or is over 16,065, a scan of brightnesses is not 378 long, or the length of a spool of them is no multiple of 378 or is over 96,390.
     InputLength,
     /// A character (a register's too) or field operand is over 63, a data row over 127, or a byte of a map over 1.
     ValueOver,
@@ -44,6 +44,8 @@ pub enum Refusal {
     LineNotHeld,
     /// An address over 62.
     AddressOver,
+    /// A scan of brightnesses in which no cell is dark, or none is bright.
+    OneSided,
     /// A number that this crate does not know: the library that is linked is a later one.
     Unknown(u8),
 }
@@ -70,6 +72,7 @@ impl Refusal {
         Refusal::TrayUnfit,
         Refusal::LineNotHeld,
         Refusal::AddressOver,
+        Refusal::OneSided,
     ];
 
     /// The paper's number.
@@ -94,6 +97,7 @@ impl Refusal {
             Refusal::TrayUnfit => 17,
             Refusal::LineNotHeld => 18,
             Refusal::AddressOver => 19,
+            Refusal::OneSided => 20,
             Refusal::Unknown(number) => number,
         }
     }
@@ -111,7 +115,7 @@ impl Refusal {
 impl fmt::Display for Refusal {
     fn fmt(&self, f: &mut fmt::Formatter<'_>) -> fmt::Result {
         let why = match self {
-            Refusal::InputLength => "a line, ring or map of blots is not 63 long, a text is not 50 long, a sheet is not 3,969 long, its texts are not 2,600 long or its numbers not 52, or a spool's length is no multiple of 63 or is over 16,065",
+            Refusal::InputLength => "a line, ring or map of blots is not 63 long, a text is not 50 long, a sheet is not 3,969 long, its texts are not 2,600 long or its numbers not 52, a spool's length is no multiple of 63 or is over 16,065, a scan of brightnesses is not 378 long, or the length of a spool of them is no multiple of 378 or is over 96,390",
             Refusal::ValueOver => "a character (a register's too) or field operand is over 63, a data row over 127, or a byte of a map over 1",
             Refusal::RadiusOver => "radius over 5",
             Refusal::NumberOver => "number over 4095",
@@ -130,6 +134,7 @@ impl fmt::Display for Refusal {
             Refusal::TrayUnfit => "an open tray claims over 64 lines or a count above them; adding, where 64 are held; replacing and dropping, last, where the line has a character or sum over 63, or a sum not 0 at count 0",
             Refusal::LineNotHeld => "replacing: the line asked for is not there; dropping: no line is left",
             Refusal::AddressOver => "an address over 62",
+            Refusal::OneSided => "a scan of brightnesses in which no cell is dark, or none is bright",
             Refusal::Unknown(_) => "a reason that this crate does not know",
         };
         write!(f, "refused ({}): {why}", self.number())

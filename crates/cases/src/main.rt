@@ -1,8 +1,8 @@
 // Hands stored cases to the library's functions, and prints a line for each with all that was answered.
 //
 // Standard input is one case after another: a head of eight bytes, and then the input. The head is these bytes, a number's high byte first:
-// the call; a small number (a radius, a first operand, a character or a byte of a tray); a number of two bytes (of a line, wanted, a register's count, or
-// the length of the first of two scans, of a word before its map, of texts before numbers or of lines before steps);
+// the call; a small number (a radius, a first operand, a character, a byte of a tray or a threshold); a number of two bytes (of a line, wanted, a register's
+// count, or the length of the first of two scans, of a word before its map, of texts before numbers, of lines before steps or of a part that stands twice);
 // the length of the output that is lent, in two bytes; the length of the input, in two bytes. No case is too long: there is room for every
 // length that two bytes can say. The output is lent with LENT in every byte, so that it shows where it is left alone.
 //
@@ -19,6 +19,8 @@
 // 1 to add (where the line starts in the lines, in two bytes; its length), 2 to replace (the line, the address, the character), 3 to drop, 4 to ask the count,
 // 5 to write a byte by hand (the place in the tray, in two bytes; the byte), which prints nothing. The line is the name alone, and each operation has one of
 // its own after it: its name, the numbers of the answer, and each byte of the tray that it changed, in hexadecimal, after its place and a colon.
+// Scan clarity: the numbers are the answer and the kind; the bytes are the bits of three doubles, the ratio, the mean of the dark cells, that of the bright.
+// Spool clarity: the spool is the input and after it its first bytes again, as many as the number says, or all. The numbers are the answer and three counts.
 // Step and checks: the input is the eleven characters held (0 for each that is not there), and the number's low byte is the count.
 // Any other call: `passed over`.
 // The run ends where the input ends, also within a case, or after MOST_CASES.
@@ -33,10 +35,11 @@ use film::recorder::FilmRegister;
 use libc::STDIN_FILENO;
 use libc::STDOUT_FILENO;
 
+mod blocks;
+mod clarity;
 mod lines;
 mod open_trays;
 mod sheets;
-mod smudges;
 
 const SUM: u8 = 1;
 
@@ -85,6 +88,10 @@ const OPEN_TRAY: u8 = 22;
 const ENCODE_SMUDGE: u8 = 23;
 
 const READ_SMUDGE: u8 = 24;
+
+const SCAN_CLARITY: u8 = 25;
+
+const SPOOL_CLARITY: u8 = 26;
 
 // The length of a head.
 const HEAD: usize = 8;
@@ -285,20 +292,6 @@ fn panel_ring(ring: &[u8], radius: u8, output: &mut [u8]) {
     show(b"panel_ring", &[given.answer as u16, given.length], output);
 }
 
-fn encode_block(rows: &[u8], output: &mut [u8]) {
-    let answer = film::film_encode_block(rows, output);
-    show(b"encode_block", &[answer as u16], output);
-}
-
-fn read_block(rows: &[u8], output: &mut [u8]) {
-    let given = film::film_read_block(rows, output);
-    show(
-        b"read_block",
-        &[given.answer as u16, given.distance as u16],
-        output,
-    );
-}
-
 // Hands a case to the function of its call.
 fn hand_over(call: u8, small: u8, number: u16, input: &[u8], output: &mut [u8]) {
     match call {
@@ -310,8 +303,8 @@ fn hand_over(call: u8, small: u8, number: u16, input: &[u8], output: &mut [u8]) 
         READ_LINE_WANTED => lines::read_line_wanted(input, small, number, output),
         LIST_RING => list_ring(input, small, output),
         READ_RING => read_ring(input, small, output),
-        ENCODE_BLOCK => encode_block(input, output),
-        READ_BLOCK => read_block(input, output),
+        ENCODE_BLOCK => blocks::encode_block(input, output),
+        READ_BLOCK => blocks::read_block(input, output),
         BETTER_SCAN => better_of_two(input, wide(number), small),
         PANEL_TEXT => panel_text(input, output),
         PANEL_RING => panel_ring(input, small, output),
@@ -322,8 +315,10 @@ fn hand_over(call: u8, small: u8, number: u16, input: &[u8], output: &mut [u8]) 
         READ_SHEET => sheets::read_sheet(input, output),
         ENCODE_SHEET => sheets::encode_from(input, wide(number), output),
         OPEN_TRAY => open_trays::open_tray(input, wide(number), small),
-        ENCODE_SMUDGE => smudges::encode_smudge(input, output),
-        READ_SMUDGE => smudges::read_smudge(input, output),
+        ENCODE_SMUDGE => blocks::encode_smudge(input, output),
+        READ_SMUDGE => blocks::read_smudge(input, output),
+        SCAN_CLARITY => clarity::scan_clarity(input, small),
+        SPOOL_CLARITY => clarity::spool_clarity(input, wide(number), small),
         _ => pass_over(),
     }
 }

@@ -38,6 +38,8 @@ use Rattle.block.specs.Promises as Block
 use Rattle.block.proofs.Results.{one-read-as, one-encoded-as}
 use Rattle.smudge.specs.Promises as Smudge
 use Rattle.smudge.proofs.Results as Smudged
+use Rattle.clarity.specs.Promises as Clearly
+use Rattle.clarity.proofs.Results as clearly
 use Rattle.film.specs.declared.FilmElement.{FilmElement}
 use Rattle.film.specs.declared.FilmSpool.{FilmSpool}
 use Rattle.film.specs.declared.FilmChoice.{FilmChoice}
@@ -45,12 +47,14 @@ use Rattle.film.specs.declared.FilmList.{FilmList}
 use Rattle.film.specs.declared.FilmRing.{FilmRing}
 use Rattle.film.specs.declared.FilmPanel.{FilmPanel}
 use Rattle.film.specs.declared.FilmBlock.{FilmBlock}
+use Rattle.film.specs.declared.brightness.FilmScan.{FilmScan}
+use Rattle.film.specs.declared.brightness.FilmClarities.{FilmClarities}
 use Rattle.film.specs.declared.recorder.FilmRegister.{FilmRegister}
 use Rattle.film.specs.declared.recorder.FilmStepped.{FilmStepped}
 use Rattle.film.specs.declared.recorder.FilmChecked.{FilmChecked}
 use Rattle.film.specs.declared.sheets.FilmSheet.{FilmSheet}
 use Rattle.film.specs.declared.trays.FilmCount.{FilmCount}
-use Rattle.film.specs.Numbers.{elementNumbers, choiceNumbers, listNumbers, ringNumbers, panelNumbers, blockNumbers, sheetNumbers, countNumbers, registerOf, checkNumbers}
+use Rattle.film.specs.Numbers.{elementNumbers, choiceNumbers, listNumbers, ringNumbers, panelNumbers, blockNumbers, sheetNumbers, countNumbers, registerOf, checkNumbers, scanNumbers, scanGiven, claritiesNumbers}
 
 -- ---- the field
 
@@ -235,3 +239,18 @@ unfolding Smudge.Reads
 one-smudge-read rows old r s x y p q =
     let e = one-result (Smudge.readingTests rows (length old)) (Smudge.ReadAs rows) 1 (λ _. Smudged.one-read-as rows) old (blockNumbers r) (blockNumbers s) x y p q in
     (one-block r s (e .0), e .1)
+
+-- ---- how clear scans are
+
+pub one-scan-clarity : (cells : List ℕ) (t : ℕ) (r s : FilmScan) → Clearly.Clarifies cells t (scanNumbers r) (scanGiven r)
+    → Clearly.Clarifies cells t (scanNumbers s) (scanGiven s) → r ≡ s
+one-scan-clarity cells t r s p q =
+    let e = clearly.one-scan cells t (scanNumbers r) (scanNumbers s) (scanGiven r) (scanGiven s) p q in
+    ap₂ (λ (l : List ℕ) (g : Clearly.Given).
+    record { answer = getD l 0 0; kind = getD l 1 0; ratio = g .ratio; dark = g .means .dark; bright = g .means .bright }) (e .0) (e .1)
+
+pub one-spool-clarity : (cells : List ℕ) (t : ℕ) (r s : FilmClarities) → Clearly.CountsSpool cells t (claritiesNumbers r)
+    → Clearly.CountsSpool cells t (claritiesNumbers s) → r ≡ s
+one-spool-clarity cells t r s p q =
+    ap (λ (l : List ℕ). record { answer = getD l 0 0; ratios = getD l 1 0; unspread = getD l 2 0; refusals = getD l 3 0 })
+    (clearly.one-spool cells t (claritiesNumbers r) (claritiesNumbers s) p q)

@@ -2,12 +2,15 @@
 use mathlib.Core.List.{List, [], _∷_}
 use Prim.Native.Nat.{ℕ}
 use Rattle.encoder.specs.declared.Register.{Register}
+use Rattle.clarity.specs.Promises.{Given}
 use Rattle.film.specs.declared.FilmElement.{FilmElement}
 use Rattle.film.specs.declared.FilmChoice.{FilmChoice}
 use Rattle.film.specs.declared.FilmList.{FilmList}
 use Rattle.film.specs.declared.FilmRing.{FilmRing}
 use Rattle.film.specs.declared.FilmPanel.{FilmPanel}
 use Rattle.film.specs.declared.FilmBlock.{FilmBlock}
+use Rattle.film.specs.declared.brightness.FilmScan.{FilmScan}
+use Rattle.film.specs.declared.brightness.FilmClarities.{FilmClarities}
 use Rattle.film.specs.declared.recorder.FilmRegister.{FilmRegister}
 use Rattle.film.specs.declared.recorder.FilmChecked.{FilmChecked}
 use Rattle.film.specs.declared.sheets.FilmSheet.{FilmSheet}
@@ -37,6 +40,16 @@ sheetNumbers r = r .answer ∷ r .rounds ∷ []
 
 abbrev pub countNumbers : FilmCount → List ℕ
 countNumbers r = r .answer ∷ r .count ∷ []
+
+abbrev pub scanNumbers : FilmScan → List ℕ
+scanNumbers r = r .answer ∷ r .kind ∷ []
+
+-- its doubles
+abbrev pub scanGiven : FilmScan → Given
+scanGiven r = record { ratio = r .ratio; means = record { dark = r .dark; bright = r .bright } }
+
+abbrev pub claritiesNumbers : FilmClarities → List ℕ
+claritiesNumbers r = r .answer ∷ r .ratios ∷ r .unspread ∷ r .refusals ∷ []
 
 -- the same eleven characters and the same count
 abbrev pub registerOf : FilmRegister → Register

@@ -27,12 +27,13 @@ use scans::Choice;
 use spool::PLACES;
 use spool::SpoolAnswer;
 
+pub mod brightness;
 pub mod recorder;
 pub mod sheets;
 pub mod trays;
 
 // The library's version: a million times the major number, a thousand times the minor, and the patch. tools/tables writes it from version.txt.
-const VERSION: u32 = 4007000;
+const VERSION: u32 = 4008000;
 
 // The version of the library that is linked.
 #[no_mangle]

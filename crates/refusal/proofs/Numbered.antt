@@ -6,11 +6,11 @@ use Prim.Native.Nat.{ℕ, _<_, _≤_}
 use native.Mathlib.Omega.{arith}
 use lib.Dec.{eqb}
 use Rattle.refusal.specs.declared.Refusal.{Refusal}
-use Rattle.refusal.specs.declared.Refusal.the-variants.{InputLength, ValueOver, RadiusOver, NumberOver, OutputLength, NoLine, OtherNumber, RowCount, NoBlock, ManyStarts, RegisterFull, RegisterShort, QuotientByZero, Template, UnknownKind, ImproperSheet, TrayUnfit, LineNotHeld, AddressOver}
+use Rattle.refusal.specs.declared.Refusal.the-variants.{InputLength, ValueOver, RadiusOver, NumberOver, OutputLength, NoLine, OtherNumber, RowCount, NoBlock, ManyStarts, RegisterFull, RegisterShort, QuotientByZero, Template, UnknownKind, ImproperSheet, TrayUnfit, LineNotHeld, AddressOver, OneSided}
 use Rattle.refusal.specs.Number.{numberOf}
 
 refusals : List Refusal
-refusals = InputLength ∷ ValueOver ∷ RadiusOver ∷ NumberOver ∷ OutputLength ∷ NoLine ∷ OtherNumber ∷ RowCount ∷ NoBlock ∷ ManyStarts ∷ RegisterFull ∷ RegisterShort ∷ QuotientByZero ∷ Template ∷ UnknownKind ∷ ImproperSheet ∷ TrayUnfit ∷ LineNotHeld ∷ AddressOver ∷ []
+refusals = InputLength ∷ ValueOver ∷ RadiusOver ∷ NumberOver ∷ OutputLength ∷ NoLine ∷ OtherNumber ∷ RowCount ∷ NoBlock ∷ ManyStarts ∷ RegisterFull ∷ RegisterShort ∷ QuotientByZero ∷ Template ∷ UnknownKind ∷ ImproperSheet ∷ TrayUnfit ∷ LineNotHeld ∷ AddressOver ∷ OneSided ∷ []
 
 -- the first of some refusals that has a number; where none has it, any
 first-with : ℕ → List Refusal → Refusal
@@ -25,7 +25,7 @@ refusalOf n = first-with n refusals
 pub record Numbered (r : Refusal) : Type 0 where
   pub named : refusalOf (numberOf r) ≡ r
   pub least : 0 < numberOf r
-  pub most : numberOf r ≤ 19
+  pub most : numberOf r ≤ 20
 
 pub numbered : (r : Refusal) → Numbered r
 unfolding refusalOf first-with refusals
@@ -48,3 +48,4 @@ numbered ImproperSheet = record { named = refl; least = omega arith; most = omeg
 numbered TrayUnfit = record { named = refl; least = omega arith; most = omega arith }
 numbered LineNotHeld = record { named = refl; least = omega arith; most = omega arith }
 numbered AddressOver = record { named = refl; least = omega arith; most = omega arith }
+numbered OneSided = record { named = refl; least = omega arith; most = omega arith }

@@ -1,10 +1,10 @@
 -- The number of each refusal, as the table of numbered answers gives it; 0 is a success. tools/tables writes the cases from refusals.txt.
 use Prim.Native.Nat.{ℕ}
 use Rattle.refusal.specs.declared.Refusal.{Refusal}
-use Rattle.refusal.specs.declared.Refusal.the-variants.{InputLength, ValueOver, RadiusOver, NumberOver, OutputLength, NoLine, OtherNumber, RowCount, NoBlock, ManyStarts, RegisterFull, RegisterShort, QuotientByZero, Template, UnknownKind, ImproperSheet, TrayUnfit, LineNotHeld, AddressOver}
+use Rattle.refusal.specs.declared.Refusal.the-variants.{InputLength, ValueOver, RadiusOver, NumberOver, OutputLength, NoLine, OtherNumber, RowCount, NoBlock, ManyStarts, RegisterFull, RegisterShort, QuotientByZero, Template, UnknownKind, ImproperSheet, TrayUnfit, LineNotHeld, AddressOver, OneSided}
 
 abbrev pub numberOf : Refusal → ℕ
--- a line, ring or map of blots is not 63 long, a text is not 50 long, a sheet is not 3,969 long, its texts are not 2,600 long or its numbers not 52, or a spool's length is no multiple of 63 or is over 16,065
+-- a line, ring or map of blots is not 63 long, a text is not 50 long, a sheet is not 3,969 long, its texts are not 2,600 long or its numbers not 52, a spool's length is no multiple of 63 or is over 16,065, a scan of brightnesses is not 378 long, or the length of a spool of them is no multiple of 378 or is over 96,390
 numberOf InputLength = 1
 -- a character (a register's too) or field operand is over 63, a data row over 127, or a byte of a map over 1
 numberOf ValueOver = 2
@@ -42,3 +42,5 @@ numberOf TrayUnfit = 17
 numberOf LineNotHeld = 18
 -- an address over 62
 numberOf AddressOver = 19
+-- a scan of brightnesses in which no cell is dark, or none is bright
+numberOf OneSided = 20

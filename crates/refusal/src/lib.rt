@@ -23,6 +23,7 @@ pub enum Refusal {
     TrayUnfit,
     LineNotHeld,
     AddressOver,
+    OneSided,
 }
 
 // The number of a refusal.
@@ -49,5 +50,6 @@ pub fn number(r: Refusal) -> u8
         Refusal::TrayUnfit => 17,
         Refusal::LineNotHeld => 18,
         Refusal::AddressOver => 19,
+        Refusal::OneSided => 20,
     }
 }

@@ -33,6 +33,7 @@ number-spec =
     (λ c. search needs)  -- TrayUnfit
     (λ c. search needs)  -- LineNotHeld
     (λ c. search needs)  -- AddressOver
+    (λ c. search needs)  -- OneSided
     (λ c. search (of-case, needs))  -- InputLength
     (λ c. search (of-case, needs))  -- ValueOver
     (λ c. search (of-case, needs))  -- RadiusOver
@@ -52,4 +53,5 @@ number-spec =
     (λ c. search (of-case, needs))  -- TrayUnfit
     (λ c. search (of-case, needs))  -- LineNotHeld
     (λ c. search (of-case, needs))  -- AddressOver
+    (λ c. search (of-case, needs))  -- OneSided
     )

@@ -10,6 +10,7 @@ use lib.ListN.{length, getD}
 use Rattle.numbers.proofs.Cases.{le-or-lt}
 use Rattle.clarity.specs.Scan.{darkSide, brightSide, onSide, sumTo, count, sum, squares, denominator}
 use Rattle.clarity.specs.Promises.{BothSides}
+use Rattle.clarity.specs.Alike.{Every, Alike}
 use Rattle.clarity.proofs.Spread.{squares-grow, two-squares, cross-left, cross-right, cross, square-left, square-right, spread}
 
 -- ---- equal only where alike
@@ -139,15 +140,7 @@ no-part a b x y p q e =
     nothing m x e = e ∙ sym (mul-zero m)
 
 module _ (t : ℕ) (cells : List ℕ) where
-  -- every cell of a side is x
-  abbrev pub Every : Bool → ℕ → Type 0
-  Every side x = (a : ℕ) → a < length cells → 0 < onSide side t (getD cells a 0) → getD cells a 0 ≡ x
-
-  -- the cells of a side are all alike
-  abbrev pub Alike : Bool → Type 0
-  Alike side = (i j : ℕ) → i < length cells → j < length cells → 0 < onSide side t (getD cells i 0) → 0 < onSide side t (getD cells j 0) → getD cells i 0 ≡ getD cells j 0
-
-  level : (side : Bool) → count side t cells * squares side t cells - sum side t cells * sum side t cells ≡ 0 → Alike side
+  level : (side : Bool) → count side t cells * squares side t cells - sum side t cells * sum side t cells ≡ 0 → Alike t cells side
   unfolding count sum squares
   level side e =
       let h = spread (length cells) (λ a. onSide side t (getD cells a 0)) (λ a. getD cells a 0) in
@@ -156,7 +149,7 @@ module _ (t : ℕ) (cells : List ℕ) where
   -- no spread: then the cells of each side are all alike
   pub no-spread-alike : BothSides t cells
       → denominator (count darkSide t cells) (sum darkSide t cells) (squares darkSide t cells) (count brightSide t cells) (sum brightSide t cells) (squares brightSide t cells) ≡ 0
-      → Alike darkSide × Alike brightSide
+      → Alike t cells darkSide × Alike t cells brightSide
   no-spread-alike sides e =
       let z = no-part (count brightSide t cells) (count darkSide t cells)
       (count darkSide t cells * squares darkSide t cells - sum darkSide t cells * sum darkSide t cells)
@@ -164,13 +157,13 @@ module _ (t : ℕ) (cells : List ℕ) where
       (sides .some-bright) (sides .some-dark) e in
       (level darkSide (z .0), level brightSide (z .1))
 
-  no-difference : (side : Bool) (x : ℕ) → Every side x → count side t cells * squares side t cells - sum side t cells * sum side t cells ≡ 0
+  no-difference : (side : Bool) (x : ℕ) → Every t cells side x → count side t cells * squares side t cells - sum side t cells * sum side t cells ≡ 0
   unfolding count sum squares
   no-difference side x h =
       let e = flat (λ a. onSide side t (getD cells a 0)) (λ a. getD cells a 0) (length cells) x h in omega arith
 
   -- and where all dark cells are x and all bright ones y there is none
-  pub alike-no-spread : (x y : ℕ) → Every darkSide x → Every brightSide y
+  pub alike-no-spread : (x y : ℕ) → Every t cells darkSide x → Every t cells brightSide y
       → denominator (count darkSide t cells) (sum darkSide t cells) (squares darkSide t cells) (count brightSide t cells) (sum brightSide t cells) (squares brightSide t cells) ≡ 0
   alike-no-spread x y d b =
       rw (no-difference darkSide x d, no-difference brightSide y b)

@@ -1,5 +1,5 @@
 -- How large the numbers of a scan get: below 2^53, and so below 2^64.
-use Prim.Native.Nat.{ℕ, _+_, _-_, _*_, _^_, _<_, _≤_}
+use Prim.Native.Nat.{ℕ, _-_, _*_, _≤_}
 use native.Mathlib.Nat.{mul-le-mul}
 use native.Mathlib.Omega.{arith}
 use Rattle.clarity.specs.Scan.{numerator, denominator}

@@ -1,21 +1,19 @@
 -- The turns of the loop over the scans of a spool.
-use mathlib.Core.Path.{_≡_, refl, sym, ap, ap₂, _∙_, subst}
+use mathlib.Core.Path.{_≡_, refl, sym, ap₂, _∙_}
 use mathlib.Core.List.{List, [], _∷_}
 use Prim.Native.Nat.{ℕ, zero, suc, _+_, _-_, _*_, _<_, _≤_}
 use native.Mathlib.Numerals.{add-one}
 use native.Mathlib.Omega.{arith}
-use lib.ListN.{length, getD, take, drop}
+use lib.ListN.{length, take, drop}
 use lib.Ieee.{Float}
 use Rattle.numbers.specs.Parts.{part}
 use Rattle.refusal.specs.declared.Refusal.{Refusal}
-use Rattle.refusal.specs.Number.{numberOf}
-use Rattle.refusal.proofs.Laws.{refusal-positive}
 use Rattle.clarity.specs.declared.Clarity.{Clarity}
 use Rattle.clarity.specs.declared.Clarity.the-variants as C
 use Rattle.clarity.specs.Scan.{sumTo, answerOf}
 use Rattle.clarity.specs.Promises.{clarityNumbers, Given, Clarifies, isRatio, isNoSpread, isRefused, many}
 use Rattle.clarity.specs.Inside.{CountedTo, OneMore}
-use Rattle.clarity.proofs.Results.{same-answer}
+use Rattle.clarity.proofs.Results.{second, no-refusal, same-answer}
 
 -- ---- what the numbers of an answer say of its kind
 
@@ -24,20 +22,11 @@ pub record SameKind (x y : Clarity) : Type 0 where
   pub no-spread : isNoSpread x ≡ isNoSpread y
   pub refused : isRefused x ≡ isRefused y
 
-first : (m n : ℕ) (f g : List ℕ) → m ∷ f ≡ n ∷ g → m ≡ n
-first m n f g e = ap (λ (l : List ℕ). getD l 0 0) e
-
-other-kind : (f g : List ℕ) → 0 ∷ 0 ∷ f ≡ 0 ∷ 1 ∷ g → ⊥
-other-kind f g e = let k : _≡_ {A = ℕ} 0 1 = ap (λ (l : List ℕ). getD l 1 0) e in omega arith
-
-no-refusal : (r : Refusal) (f g : List ℕ) → 0 ∷ f ≡ numberOf r ∷ g → ⊥
-no-refusal r f g e = refusal-positive r (sym (first 0 (numberOf r) f g e))
-
 pub same-kind : (x y : Clarity) → clarityNumbers x ≡ clarityNumbers y → SameKind x y
 same-kind (C.Ratio r) (C.Ratio s) e = record { ratio = refl; no-spread = refl; refused = refl }
-same-kind (C.Ratio r) C.NoSpread e = absurd (other-kind [] [] e)
+same-kind (C.Ratio r) C.NoSpread e = absurd (let k = second 0 0 0 1 [] [] e in omega arith)
 same-kind (C.Ratio r) (C.Refused s) e = absurd (no-refusal s (0 ∷ []) (0 ∷ []) e)
-same-kind C.NoSpread (C.Ratio s) e = absurd (other-kind [] [] (sym e))
+same-kind C.NoSpread (C.Ratio s) e = absurd (let k = second 0 0 1 0 [] [] e in omega arith)
 same-kind C.NoSpread C.NoSpread e = record { ratio = refl; no-spread = refl; refused = refl }
 same-kind C.NoSpread (C.Refused s) e = absurd (no-refusal s (1 ∷ []) (0 ∷ []) e)
 same-kind (C.Refused r) (C.Ratio s) e = absurd (no-refusal r (0 ∷ []) (0 ∷ []) (sym e))

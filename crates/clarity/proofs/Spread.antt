@@ -1,5 +1,5 @@
 -- The square of a sum is at most the count times the sum of the squares: what is subtracted in a spread is never the greater.
-use mathlib.Core.Path.{_≡_, refl, sym, ap, _∙_}
+use mathlib.Core.Path.{_≡_}
 use mathlib.Core.Logic.{_⊎_, inl, inr}
 use Prim.Native.Nat.{ℕ, zero, suc, _+_, _-_, _*_, _<_, _≤_}
 use native.Mathlib.Nat.{mul-add, add-mul, mul-comm, mul-left-comm, mul-assoc, add-comm, add-left-comm, add-assoc, mul-le-mul-left}

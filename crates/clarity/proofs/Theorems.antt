@@ -1,10 +1,10 @@
 -- What is proved of a scan's clarity, in the request's words: nothing is cut off, both numbers are exact as doubles, each quotient is rounded once; what the ratio and
 -- the means are beside one another; what no spread and a refusal give; and what a spool's counts count.
-use mathlib.Core.Path.{_≡_, refl, sym, ap, ap₂, _∙_, subst}
-use mathlib.Core.Bool.{Bool, true, false, cond}
+use mathlib.Core.Path.{_≡_, refl, sym, ap, _∙_}
+use mathlib.Core.Bool.{false}
 use mathlib.Core.List.{List, [], _∷_}
-use Prim.Native.Nat.{ℕ, zero, suc, _+_, _-_, _*_, _^_, _/_, _<_, _≤_}
-use native.Mathlib.Nat.{mul-pos, mul-comm, add-mul}
+use Prim.Native.Nat.{ℕ, zero, suc, _+_, _*_, _^_, _/_, _<_, _≤_}
+use native.Mathlib.Nat.{mul-pos}
 use native.Mathlib.Omega.{arith}
 use lib.Dec.{T, ltb→lt}
 use lib.ListN.{length, getD}
@@ -18,12 +18,11 @@ use Rattle.numbers.specs.Below.{AllBelow}
 use Rattle.numbers.specs.Parts.{part}
 use Rattle.numbers.proofs.Cases.{pos-of-not-zero}
 use Rattle.refusal.proofs.Ladder.{denied, _then_}
-use Rattle.clarity.specs.declared.Means.{Means}
 use Rattle.clarity.specs.declared.Clarity.{Clarity}
 use Rattle.clarity.specs.declared.Clarity.the-variants as C
 use Rattle.clarity.specs.Scan.{cellCount, darkSide, brightSide, onSide, sumTo, count, sum, squares, numerator, denominator, quotient, clarityOf, clarityIn, meansIn, answerOf}
 use Rattle.clarity.specs.Promises.{clarityNumbers, none, ratioOf, Given, nothing, BothSides, Clarifies, isRatio, isNoSpread, isRefused, many, Whole, scanCount, CountsSpool}
-use Rattle.clarity.specs.Inside.{Tallied, Bounded, Ordered}
+use Rattle.clarity.specs.Inside.{Tallied}
 use Rattle.clarity.proofs.Rounding.{once}
 use Rattle.clarity.proofs.Spread.{spread}
 use Rattle.clarity.proofs.Bounds.{numerator-le, denominator-le}
@@ -90,19 +89,15 @@ module _ (t : ℕ) (cells : List ℕ) where
   q2 = squares brightSide t cells
 
   -- what is subtracted is never the greater, whatever the cells
-  pub record Uncut : Type 0 where
-    pub means : s1 * n2 ≤ s2 * n1
-    pub dark : s1 * s1 ≤ n1 * q1
-    pub bright : s2 * s2 ≤ n2 * q2
-
-  pub never-cut : Uncut
+  pub never-cut : (s1 * n2 ≤ s2 * n1) × ((s1 * s1 ≤ n1 * q1) × (s2 * s2 ≤ n2 * q2))
   unfolding count sum squares
-  never-cut =
-      record {
-        means = not-below t cells;
-        dark = spread (length cells) (λ a. onSide darkSide t (getD cells a 0)) (λ a. getD cells a 0);
-        bright = spread (length cells) (λ a. onSide brightSide t (getD cells a 0)) (λ a. getD cells a 0);
-      }
+  never-cut = (
+    not-below t cells,
+    (
+      spread (length cells) (λ a. onSide darkSide t (getD cells a 0)) (λ a. getD cells a 0),
+      spread (length cells) (λ a. onSide brightSide t (getD cells a 0)) (λ a. getD cells a 0),
+    ),
+  )
 
   -- no spread exactly where the denominator is 0
   pub no-spread : denominator n1 s1 q1 n2 s2 q2 ≡ 0 → clarityIn t cells ≡ C.NoSpread

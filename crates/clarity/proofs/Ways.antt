@@ -1,7 +1,7 @@
 -- The ways out of a scan and of a spool of scans, and that each scan answers as it is said to.
-use mathlib.Core.Path.{_≡_, refl, sym, ap, _∙_, subst}
+use mathlib.Core.Path.{_≡_, refl, sym, _∙_, subst}
 use mathlib.Core.Bool.{Bool, true, false, cond}
-use mathlib.Core.Logic.{inl, inr, ⊎-elim}
+use mathlib.Core.Logic.{⊎-elim}
 use mathlib.Core.List.{List, [], _∷_}
 use Prim.Native.Nat.{ℕ, _/_, _%_, _<_, _≤_}
 use native.Mathlib.Omega.{arith}
@@ -13,14 +13,13 @@ use Rattle.numbers.proofs.Cases.{same-or-not, pos-of-not-zero}
 use Rattle.refusal.specs.declared.Refusal.{Refusal}
 use Rattle.refusal.specs.declared.Refusal.the-variants.{InputLength, OneSided}
 use Rattle.refusal.specs.Number.{numberOf}
-use Rattle.refusal.specs.Promise.{Test}
 use Rattle.refusal.proofs.Ladder.{Met, FailsAt, answerAt, refuses, succeeds, declines, replies, denied, _then_}
 use Rattle.clarity.specs.declared.Means.{Means}
 use Rattle.clarity.specs.declared.Scan.{Scan}
 use Rattle.clarity.specs.declared.Clarity.{Clarity}
 use Rattle.clarity.specs.declared.Clarity.the-variants as C
 use Rattle.clarity.specs.Scan.{darkSide, brightSide, count, sum, squares, numerator, denominator, quotient, clarityOf, clarityIn, meansIn, answerOf}
-use Rattle.clarity.specs.Promises.{clarityNumbers, Given, givenOf, nothing, BothSides, scanTests, ClearAs, refusedAs, Clarifies, Whole, scanCount, spoolTests, CountedAs, CountsSpool, isRatio, isNoSpread, isRefused, many}
+use Rattle.clarity.specs.Promises.{clarityNumbers, Given, givenOf, nothing, BothSides, scanTests, ClearAs, refusedAs, Clarifies, Whole, scanCount, spoolTests, CountedAs, CountsSpool}
 use Rattle.clarity.specs.Inside.{Tallied, CountedTo}
 
 -- an answer that is no refusal has the number 0, and its kind

@@ -1,4 +1,5 @@
--- How clear a scan is, what is promised of it, and what the inner functions know.
+-- How clear a scan is, what is promised of it, what theorems and what inner functions speak of.
 pub mod Scan
 pub mod Promises
+pub mod Alike
 pub mod Inside

@@ -1,9 +1,9 @@
--- What is proved of a scan's clarity, in the request's words: nothing is cut off, both numbers are exact as doubles, each quotient is rounded once; what the ratio and
--- the means are beside one another; what no spread and a refusal give; and what a spool's counts count.
+-- What is proved of a scan's clarity, in the request's words: nothing is cut off, both numbers are exact as doubles, each quotient is rounded once; how the
+-- ratio and the means stand to 0 and to one another; what no spread and a refusal give; and what a spool's counts count.
 use mathlib.Core.Path.{_≡_, refl, sym, ap, _∙_}
 use mathlib.Core.Bool.{false}
 use mathlib.Core.List.{List, [], _∷_}
-use Prim.Native.Nat.{ℕ, zero, suc, _+_, _*_, _^_, _/_, _<_, _≤_}
+use Prim.Native.Nat.{ℕ, zero, suc, _+_, _*_, _^_, _<_, _≤_}
 use native.Mathlib.Nat.{mul-pos}
 use native.Mathlib.Omega.{arith}
 use lib.Dec.{T, ltb→lt}

@@ -19,8 +19,8 @@ use Rattle.clarity.specs.declared.Scan.{Scan}
 use Rattle.clarity.specs.declared.Clarity.{Clarity}
 use Rattle.clarity.specs.declared.Clarity.the-variants as C
 use Rattle.clarity.specs.Scan.{darkSide, brightSide, count, sum, squares, numerator, denominator, quotient, clarityOf, clarityIn, meansIn, answerOf}
-use Rattle.clarity.specs.Promises.{clarityNumbers, Given, givenOf, nothing, BothSides, scanTests, ClearAs, refusedAs, Clarifies, Whole, scanCount, spoolTests, CountedAs, CountsSpool}
-use Rattle.clarity.specs.Inside.{Tallied, CountedTo}
+use Rattle.clarity.specs.Promises.{clarityNumbers, Given, givenOf, nothing, BothSides, scanTests, ClearAs, Clarifies, Whole, scanCount, spoolTests, CountedAs, CountsSpool}
+use Rattle.clarity.specs.Inside.{refusedAs, Tallied, CountedTo}
 
 -- an answer that is no refusal has the number 0, and its kind
 numbers-of : (b : Bool) (r : Float) → clarityNumbers (cond b C.NoSpread (C.Ratio r)) ≡ 0 ∷ cond b 1 0 ∷ []

@@ -3,9 +3,16 @@ use mathlib.Core.Path.{_≡_}
 use mathlib.Core.Bool.{Bool}
 use mathlib.Core.List.{List}
 use Prim.Native.Nat.{ℕ, _+_, _*_, _≤_}
+use Rattle.refusal.specs.declared.Refusal.{Refusal}
+use Rattle.clarity.specs.declared.Scan.{Scan}
 use Rattle.clarity.specs.declared.Clarity.{Clarity}
+use Rattle.clarity.specs.declared.Clarity.the-variants.{Refused}
 use Rattle.clarity.specs.Scan.{darkSide, onSide, count, sum, squares}
-use Rattle.clarity.specs.Promises.{isRatio, isNoSpread, isRefused, many}
+use Rattle.clarity.specs.Promises.{noMeans, isRatio, isNoSpread, isRefused, many}
+
+-- what a scan that is refused comes to
+abbrev pub refusedAs : Refusal → Scan
+refusedAs r = record { means = noMeans; answer = Refused r }
 
 -- what one cell adds: to the dark side n, s and q, and to all its value and its square
 pub record Adds (t c n s q value square : ℕ) : Type 0 where

@@ -5,12 +5,10 @@ use Prim.Native.Nat.{ℕ, _/_, _%_, _<_, _≤_}
 use lib.ListN.{length}
 use lib.Ieee.{Float, binary64, ofBits}
 use Rattle.numbers.specs.Parts.{part}
-use Rattle.refusal.specs.declared.Refusal.{Refusal}
 use Rattle.refusal.specs.declared.Refusal.the-variants.{InputLength, OneSided}
 use Rattle.refusal.specs.Number.{numberOf}
 use Rattle.refusal.specs.Promise.{Test, _else_, Promise, Replies}
 use Rattle.clarity.specs.declared.Means.{Means}
-use Rattle.clarity.specs.declared.Scan.{Scan}
 use Rattle.clarity.specs.declared.Clarity.{Clarity}
 use Rattle.clarity.specs.declared.Clarity.the-variants as C
 use Rattle.clarity.specs.declared.Clarities.{Clarities}
@@ -68,10 +66,6 @@ ClearAs cells t fields given = (0 ∷ fields ≡ clarityNumbers (clarityIn t cel
 unfoldable pub Clarifies : List ℕ → ℕ → List ℕ → Given → Type 0
 Clarifies cells t numbers given = Promise (scanTests cells t) (ClearAs cells t) 1 nothing numbers given
 
--- what a scan that is refused comes to
-abbrev pub refusedAs : Refusal → Scan
-refusedAs r = record { means = noMeans; answer = C.Refused r }
-
 -- ---- a spool of scans
 
 -- 1 for an answer that is a ratio, no spread, or a refusal, and 0 for another
@@ -101,12 +95,12 @@ countNumbers (S.Refused r) = numberOf r ∷ 0 ∷ 0 ∷ 0 ∷ []
 
 -- whole scans, at most 255
 pub record Whole (n : ℕ) : Type 0 where
-  pub scans : n % 378 ≡ 0
+  pub scans : n % cellCount ≡ 0
   pub few : n ≤ 96390
 
 -- how many they are
 abbrev pub scanCount : List ℕ → ℕ
-scanCount cells = length cells / 378
+scanCount cells = length cells / cellCount
 
 abbrev pub spoolTests : List ℕ → List Test
 spoolTests cells = (Whole (length cells) else InputLength) ∷ []

@@ -3,12 +3,15 @@ ghost use mathlib.Core.Path.{_≡_};
 ghost use Prim.Native.Nat.{_+_, _-_, _*_, _^_, _<_, _≤_};
 ghost use lib.ListN.{length};
 ghost use Rattle.clarity.specs.Scan.{darkSide, brightSide, numerator, quotient, clarityOf};
-ghost use Rattle.clarity.specs.Promises.{clarityNumbers, givenOf, refusedAs, Clarifies, countNumbers, CountsSpool};
-ghost use Rattle.clarity.specs.Inside.{Adds, Tallied, Bounded, Ordered, CountedTo, OneMore};
+ghost use Rattle.clarity.specs.Promises.{clarityNumbers, givenOf, Clarifies, countNumbers, CountsSpool};
+ghost use Rattle.clarity.specs.Inside.{refusedAs, Adds, Tallied, Bounded, Ordered, CountedTo, OneMore};
 use refusal::Refusal;
 
 // The cells of a line.
 const CELLS: usize = 378;
+
+// The same as the sides count them.
+const ALL: u32 = 378;
 
 // The cells of the longest spool: 255 scans.
 const SPOOL: usize = 96390;
@@ -150,7 +153,7 @@ fn sides_of(cells: &[u8], threshold: u8) -> Sides
         n1: n,
         s1: s,
         q1: q,
-        n2: 378 - n,
+        n2: ALL - n,
         s2: sum - s,
         q2: squares - q,
     }

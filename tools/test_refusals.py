@@ -60,8 +60,9 @@ class Tests(unittest.TestCase):
                 (root / path).parent.mkdir(parents=True, exist_ok=True)
                 (root / path).write_text((ROOT / path).read_text())
             before = dict(refusals.copies(root))
+            highest = refusals.refusals_of((root / "refusals.txt").read_text())[-1].number
             with (root / "refusals.txt").open("a") as file:
-                file.write(f"20 | LateOne | {late} | Wait.\n")
+                file.write(f"{highest + 2} | LateOne | {late} | Wait.\n")
             (root / "version.txt").write_text(version + "\n")
             after = dict(refusals.copies(root))
             self.assertEqual(before.keys(), after.keys())

@@ -1,4 +1,5 @@
 // Parity blocks: reading within one bit, and encoding.
+#![tactic(auto)]
 ghost use Rattle.std.specs.Prelude.{◌≡◌, ◌+◌, ◌*◌, ◌/◌, ◌≤◌, length};
 ghost use Rattle.eights.specs.Inside.{HoldsBytes, eight_from};
 ghost use Rattle.block.specs.Block.{ones, Sevens};
@@ -13,21 +14,21 @@ use refusal::Refusal;
 const COLUMNS: u8 = 255;
 
 // The answer of reading.
-#[derive(Drop)]
+#[derive(Clone, Copy)]
 pub enum BlockReading {
     Block { distance: u8 },
     Refused(Refusal),
 }
 
 // The answer of encoding.
-#[derive(Drop)]
+#[derive(Clone, Copy)]
 pub enum BlockEncoding {
     Written,
     Refused(Refusal),
 }
 
 // How many rows are odd, one of them, and a bit for each column of the wrong parity.
-#[derive(Drop)]
+#[derive(Clone, Copy)]
 struct Faults {
     rows: usize,
     row: usize,
@@ -151,7 +152,7 @@ pub fn read_block(rows: &[u8], output: &mut [u8]) -> BlockReading
     if distance > 1 {
         return BlockReading::Refused(Refusal::NoBlock);
     }
-    bytes::copy(rows, output);
+    copying::copy(rows, output);
     let row = faults.row;
     output[row] = output[row] ^ columns;
     BlockReading::Block { distance: distance }

@@ -1,4 +1,5 @@
 // Reading a line with blots: the line that differs from the word in e characters outside the f blots, 2 e + f at most 11.
+#![tactic(auto)]
 ghost use Rattle.std.specs.Prelude.{◌≡◌, false, ◌^◌, ◌<◌, ◌≤◌, length};
 ghost use Rattle.refusal.specs.Promise.{Tells};
 ghost use Rattle.polynomial.specs.Sums.{weight};
@@ -20,7 +21,7 @@ const LINE: usize = 63;
 const SUMS: usize = 11;
 
 // What is to be added to a word, if that can be told, and a bit for each address at which it may not be 0.
-#[derive(Drop)]
+#[derive(Clone, Copy)]
 struct Errors {
     found: bool,
     word: [u8; 63],
@@ -83,7 +84,7 @@ fn held(map: &[u8]) -> [u8; 63]
     ensures { result ≡ map.now }
 {
     let mut r = [0u8; 63];
-    bytes::copy(map, &mut r);
+    copying::copy(map, &mut r);
     r
 }
 

@@ -1,4 +1,5 @@
 // How clear a scan is: the signal ratio of 378 cell brightnesses under a threshold, squared, with both means; and the counts of a spool of scans.
+#![tactic(auto)]
 ghost use Rattle.std.specs.Prelude.{◌≡◌, ◌+◌, ◌-◌, ◌*◌, ◌^◌, ◌<◌, ◌≤◌, length};
 ghost use Rattle.clarity.specs.Scan.{dark_side, bright_side, numerator, quotient, clarity_of};
 ghost use Rattle.clarity.specs.Promises.{clarity_numbers, given_of, Clarifies, count_numbers, CountsSpool};
@@ -16,14 +17,14 @@ const ALL: u32 = 378;
 const SPOOL: usize = 96390;
 
 // The scan record: the means of the dark and of the bright cells.
-#[derive(Drop)]
+#[derive(Clone, Copy)]
 pub struct Means {
     pub dark: f64,
     pub bright: f64,
 }
 
 // The ratio; or that there is none, since the cells of each side are all alike; or why the scan is refused.
-#[derive(Drop)]
+#[derive(Clone, Copy)]
 pub enum Clarity {
     Ratio(f64),
     NoSpread,
@@ -31,14 +32,14 @@ pub enum Clarity {
 }
 
 // What a scan comes to: its record, with 0.0 twice in a refusal, and the answer.
-#[derive(Drop)]
+#[derive(Clone, Copy)]
 pub struct Scan {
     pub means: Means,
     pub answer: Clarity,
 }
 
 // How many scans of a spool have a ratio, have no spread and are refused; or why none was looked at.
-#[derive(Drop)]
+#[derive(Clone, Copy)]
 pub enum Clarities {
     Counted {
         ratios: u8,
@@ -49,7 +50,7 @@ pub enum Clarities {
 }
 
 // Both sides of a scan, 1 dark and 2 bright: how many cells each has, their sum, and the sum of their squares.
-#[derive(Drop)]
+#[derive(Clone, Copy)]
 struct Sides {
     n1: u32,
     s1: u32,
@@ -60,7 +61,7 @@ struct Sides {
 }
 
 // What one cell adds: to the dark side, and to all.
-#[derive(Drop)]
+#[derive(Clone, Copy)]
 struct Part {
     n: u32,
     s: u32,
@@ -70,7 +71,7 @@ struct Part {
 }
 
 // The three counts of a spool, up to some scan.
-#[derive(Drop)]
+#[derive(Clone, Copy)]
 struct Counts {
     ratios: u8,
     unspread: u8,

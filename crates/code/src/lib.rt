@@ -1,4 +1,6 @@
 // Words of 63 characters: the test for a line, by the sums as they are defined and no table of them.
+#![tactic(auto)]
+
 ghost use Rattle.std.specs.Prelude.{◌≡◌, length};
 ghost use Rattle.refusal.specs.Promise.{Tells};
 ghost use Rattle.polynomial.specs.Polynomial.{value_at};

@@ -1,4 +1,6 @@
 // Bytes, eight at once: whether each is below 64, and the exclusive or of all.
+#![tactic(auto)]
+
 ghost use Rattle.std.specs.Prelude.{◌≡◌, [], ◌∷◌, ◌+◌, ◌≤◌, length, get_or};
 ghost use Rattle.refusal.specs.Promise.{Tells};
 ghost use Rattle.numbers.specs.Total.{total};

@@ -1,4 +1,5 @@
 // The encoder: a line at once, and the recorder's register, which takes one character at a time.
+#![tactic(auto)]
 ghost use Rattle.std.specs.Prelude.{◌≡◌, ◌++◌, length, get_or, take};
 ghost use Rattle.refusal.specs.Promise.{Tells};
 ghost use Rattle.code.specs.Word.{Characters};
@@ -14,42 +15,42 @@ use refusal::Refusal;
 const MIDDLE: u64 = 377473087143165780;
 
 // The answer of encoding a line at once.
-#[derive(Drop)]
+#[derive(Clone, Copy)]
 pub enum LineEncoding {
     Written,
     Refused(Refusal),
 }
 
 // The recorder's encoder: eleven characters, highest degree first, and how many were taken.
-#[derive(Drop)]
+#[derive(Clone, Copy)]
 pub struct Register {
     pub held: [u8; 11],
     pub count: u8,
 }
 
 // The answer of a step.
-#[derive(Drop)]
+#[derive(Clone, Copy)]
 pub enum StepAnswer {
     Taken,
     Refused(Refusal),
 }
 
 // The register after a step, and the answer.
-#[derive(Drop)]
+#[derive(Clone, Copy)]
 pub struct Stepped {
     pub register: Register,
     pub answer: StepAnswer,
 }
 
 // The answer of asking for the checks.
-#[derive(Drop)]
+#[derive(Clone, Copy)]
 pub enum CheckAnswer {
     Given,
     Refused(Refusal),
 }
 
 // The eleven checks, zeros in a refusal, and the answer.
-#[derive(Drop)]
+#[derive(Clone, Copy)]
 pub struct Checked {
     pub checks: [u8; 11],
     pub answer: CheckAnswer,
@@ -159,7 +160,7 @@ pub fn information_of(text: &[u8], number: u16) -> [u8; 63]
     if text.len() != 50 {
         return characters;
     }
-    bytes::copy(text, &mut characters);
+    copying::copy(text, &mut characters);
     characters[50] = (number / 64 % 64) as u8;
     characters[51] = (number % 64) as u8;
     characters
@@ -170,8 +171,8 @@ fn write_line(word: [u8; 63], checks: [u8; 11], output: &mut [u8])
     requires { length output.old ≡ 63 }
     ensures { output.new ≡ take 52 word ++ checks }
 {
-    bytes::copy(&word, output);
-    bytes::copy(&checks, &mut output[52..]);
+    copying::copy(&word, output);
+    copying::copy(&checks, &mut output[52..]);
 }
 
 // Encodes a line at once: writes the one line with this text and number.

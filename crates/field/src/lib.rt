@@ -1,4 +1,6 @@
 // The field of 64 elements: the entry points sum, product and quotient, and the inner operations that the crates above use.
+#![tactic(auto)]
+
 ghost use Rattle.std.specs.Prelude.{◌≡◌, ◌%◌, ◌<◌};
 ghost use Rattle.refusal.specs.Promise.{Tells};
 ghost use Rattle.field.specs.Field.{sum, product, Quotient};
@@ -9,7 +11,7 @@ use refusal::Refusal;
 
 mod table;
 
-#[derive(Drop)]
+#[derive(Clone, Copy)]
 pub enum Element {
     Value(u8),
     Refused(Refusal),

@@ -12,7 +12,7 @@ const NO_SPREAD: u8 = 1;
 
 // The answer of a scan, its kind and its ratio, 0.0 where there is none; and the scan record, the means of the dark and of the bright cells.
 #[repr(C)]
-#[derive(Drop)]
+#[derive(Clone, Copy)]
 pub struct FilmScan {
     pub answer: u8,
     pub kind: u8,
@@ -23,7 +23,7 @@ pub struct FilmScan {
 
 // The answer of a spool, and how many of its scans have a ratio, have no spread and are refused.
 #[repr(C)]
-#[derive(Drop)]
+#[derive(Clone, Copy)]
 pub struct FilmClarities {
     pub answer: u8,
     pub ratios: u8,

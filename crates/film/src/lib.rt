@@ -1,4 +1,5 @@
 // The library that other programs link: each function hands its call to the entry point of that name and gives back the paper's numbers; one tells the version.
+#![tactic(auto)]
 ghost use Rattle.std.specs.Prelude.{◌≡◌, [], ◌∷◌};
 ghost use Rattle.field.specs.Promises as Field;
 ghost use Rattle.encoder.specs.Promises as Encoder;
@@ -41,7 +42,7 @@ pub extern "C" fn film_version() -> u32
 
 // The answer of an operation of the field, and its value.
 #[repr(C)]
-#[derive(Drop)]
+#[derive(Clone, Copy)]
 pub struct FilmElement {
     pub answer: u8,
     pub value: u8,
@@ -49,7 +50,7 @@ pub struct FilmElement {
 
 // What reading each line of a spool answers, line by line, with zeros past the last line and in a refusal; and the answer of the call.
 #[repr(C)]
-#[derive(Drop)]
+#[derive(Clone, Copy)]
 pub struct FilmSpool {
     pub places: [PlainReading; PLACES],
     pub answer: u8,
@@ -57,7 +58,7 @@ pub struct FilmSpool {
 
 // The answer of choosing between two scans, and the scan: 1 the first, 2 the second, 0 neither.
 #[repr(C)]
-#[derive(Drop)]
+#[derive(Clone, Copy)]
 pub struct FilmChoice {
     pub answer: u8,
     pub scan: u8,
@@ -65,7 +66,7 @@ pub struct FilmChoice {
 
 // The answer of listing a ring, and how many starts are listed.
 #[repr(C)]
-#[derive(Drop)]
+#[derive(Clone, Copy)]
 pub struct FilmList {
     pub answer: u8,
     pub count: u8,
@@ -73,7 +74,7 @@ pub struct FilmList {
 
 // The answer of reading a ring, the start, the distance, the number, and the first and the last changed address of the word at the start.
 #[repr(C)]
-#[derive(Drop)]
+#[derive(Clone, Copy)]
 pub struct FilmRing {
     pub answer: u8,
     pub start: u8,
@@ -85,7 +86,7 @@ pub struct FilmRing {
 
 // The answer of a panel's text, and how many bytes were written.
 #[repr(C)]
-#[derive(Drop)]
+#[derive(Clone, Copy)]
 pub struct FilmPanel {
     pub answer: u8,
     pub length: u16,
@@ -93,7 +94,7 @@ pub struct FilmPanel {
 
 // The answer of reading a block, and the distance.
 #[repr(C)]
-#[derive(Drop)]
+#[derive(Clone, Copy)]
 pub struct FilmBlock {
     pub answer: u8,
     pub distance: u8,

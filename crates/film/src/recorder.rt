@@ -7,7 +7,7 @@ use encoder::{CheckAnswer, Register, StepAnswer};
 
 // The recorder's register: eleven characters, highest degree first, and how many were taken.
 #[repr(C)]
-#[derive(Drop)]
+#[derive(Clone, Copy)]
 pub struct FilmRegister {
     pub held: [u8; 11],
     pub count: u8,
@@ -15,7 +15,7 @@ pub struct FilmRegister {
 
 // The register after a step, and the answer.
 #[repr(C)]
-#[derive(Drop)]
+#[derive(Clone, Copy)]
 pub struct FilmStepped {
     pub register: FilmRegister,
     pub answer: u8,
@@ -23,7 +23,7 @@ pub struct FilmStepped {
 
 // The eleven checks, zeros in a refusal, and the answer.
 #[repr(C)]
-#[derive(Drop)]
+#[derive(Clone, Copy)]
 pub struct FilmChecked {
     pub checks: [u8; 11],
     pub answer: u8,

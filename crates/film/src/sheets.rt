@@ -10,7 +10,7 @@ use sheet_reader::SheetReading;
 
 // The answer of reading a sheet, and how many rounds were run.
 #[repr(C)]
-#[derive(Drop)]
+#[derive(Clone, Copy)]
 pub struct FilmSheet {
     pub answer: u8,
     pub rounds: u8,

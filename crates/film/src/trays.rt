@@ -7,7 +7,7 @@ use open_tray::{TRAY, TrayCount, TrayEdit};
 
 // The answer where the count is asked for, and the count.
 #[repr(C)]
-#[derive(Drop)]
+#[derive(Clone, Copy)]
 pub struct FilmCount {
     pub answer: u8,
     pub count: u8,

@@ -1,4 +1,6 @@
 // Ten elements at once, in six-bit lanes of one number: x times each, each times one element, and lane by lane; and one product in the lowest lane.
+#![tactic(auto)]
+
 ghost use Rattle.std.specs.Prelude.{◌≡◌, ◌*◌, ◌/◌, ◌%◌};
 ghost use Rattle.std.specs.Int.Bits.{bit_xor};
 ghost use Rattle.numbers.specs.Total.{total};

@@ -1,4 +1,5 @@
 // Reading a line: the line within the radius, or a refusal exactly when there is none.
+#![tactic(auto)]
 ghost use Rattle.std.specs.Prelude.{◌≡◌, length};
 ghost use Rattle.refusal.specs.Promise.{Tells};
 ghost use Rattle.sums.specs.Held.{eleven};
@@ -10,14 +11,14 @@ use refusal::Refusal;
 use sums::Sums;
 
 // The number that the line must carry, or none.
-#[derive(Drop)]
+#[derive(Clone, Copy)]
 pub enum Wanted {
     Any,
     Number(u16),
 }
 
 // The line's number, its distance, and the first and the last changed address; or why there is none.
-#[derive(Drop)]
+#[derive(Clone, Copy)]
 pub enum LineReading {
     Line {
         number: u16,
@@ -30,7 +31,7 @@ pub enum LineReading {
 
 // A reading in plain numbers, as C and the places of a spool hold it. In a refusal all but the answer are 0.
 #[repr(C)]
-#[derive(Drop)]
+#[derive(Clone, Copy)]
 pub struct PlainReading {
     pub answer: u8,
     pub distance: u8,
@@ -181,7 +182,7 @@ pub fn put(line: [u8; 63], output: &mut [u8])
     if output.len() != 63 {
         return;
     }
-    bytes::copy(&line, output);
+    copying::copy(&line, output);
 }
 
 // Writes a word of 63 characters over an output of as many. It goes by an array, of which the compiler knows that it is not the output too.
@@ -190,7 +191,7 @@ fn put_word(word: &[u8], output: &mut [u8])
     ensures { output.new ≡ word.now }
 {
     let mut itself = [0u8; 63];
-    bytes::copy(word, &mut itself);
+    copying::copy(word, &mut itself);
     put(itself, output);
 }
 

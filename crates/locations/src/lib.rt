@@ -1,16 +1,17 @@
 // The error locations: the roots of a polynomial, by trial and error using synthetic division, and directly where it is of order one or two.
+#![tactic(auto)]
 ghost use Rattle.std.specs.Prelude.{◌≡◌, ◌<◌, get_or};
 ghost use Rattle.locations.specs.Roots.{Finds, Nowhere, Divides, Tried, halves};
 
 // Places at which errors were found: the last of five, as many as were sought.
-#[derive(Drop)]
+#[derive(Clone, Copy)]
 pub struct Locations {
     pub found: bool,
     pub roots: [u8; 5],
 }
 
 // A polynomial divided by x + r, with a 0 after it, and the remainder, which is its value at r.
-#[derive(Drop)]
+#[derive(Clone, Copy)]
 struct Division {
     quotient: [u8; 6],
     remainder: u8,

@@ -1,4 +1,5 @@
 // The matrix-solving program: square systems of up to five equations by row reduction, on an array of arrays that is passed by value and handed back.
+#![tactic(auto)]
 ghost use Rattle.std.specs.Prelude.{◌≡◌, [], min, ◌%◌, ◌<◌, ◌≤◌, get_or, set};
 ghost use Rattle.refusal.specs.Promise.{Tells};
 ghost use Rattle.matrix.specs.System.{Solves};
@@ -11,7 +12,7 @@ const ROWS: usize = 5;
 const COLUMNS: usize = 6;
 
 // The unknowns that solve a system, and 1 after them.
-#[derive(Drop)]
+#[derive(Clone, Copy)]
 pub struct Solution {
     pub found: bool,
     pub unknowns: [u8; COLUMNS],

@@ -1,4 +1,5 @@
 // Mending: from power sums to the errors that have them, and the nearest word with given sums.
+#![tactic(auto)]
 ghost use Rattle.std.specs.Prelude.{◌≡◌, false, min, ◌/◌, ◌<◌, ◌≤◌, length};
 ghost use Rattle.refusal.specs.Promise.{Tells};
 ghost use Rattle.code.specs.Word.{added};
@@ -18,7 +19,7 @@ pub const NOWHERE: u8 = 63;
 
 // A word that was found. Errors: how many of its characters are not 0, and the first and the last address of these. A word near another: how far it
 // lies, and the first and the last address at which it differs.
-#[derive(Drop)]
+#[derive(Clone, Copy)]
 pub struct Mended {
     pub found: bool,
     pub weight: u8,
@@ -28,7 +29,7 @@ pub struct Mended {
 }
 
 // One error: its address, and what is to be added there.
-#[derive(Drop)]
+#[derive(Clone, Copy)]
 struct Single {
     found: bool,
     address: usize,

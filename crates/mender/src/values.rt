@@ -10,7 +10,7 @@ use lanes::{FIVE_LANES, FIVE_ONES, FOUR_LANES, SIX_LANES, THREE_LANES, TWO_LANES
 use sums::Sums;
 
 // A pattern of errors, how many of its characters are not 0, and the first and the last address of these.
-#[derive(Drop)]
+#[derive(Clone, Copy)]
 pub struct Pattern {
     pub word: [u8; 63],
     pub weight: u8,
@@ -19,7 +19,7 @@ pub struct Pattern {
 }
 
 // Values at the next roots, in lanes, the nearest lowest: so many are left.
-#[derive(Drop)]
+#[derive(Clone, Copy)]
 struct Ahead {
     values: u64,
     left: usize,

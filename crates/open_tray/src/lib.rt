@@ -1,4 +1,5 @@
 // A tray kept open: up to 64 lines with their power sums, edited one step at a time, and a count of those whose sums are not all 0.
+#![tactic(auto)]
 ghost use Rattle.std.specs.Prelude.{◌≡◌, ◌++◌, ◌-◌, ◌≤◌, ◌<◌, length, drop};
 ghost use Rattle.refusal.specs.Promise.{Tells};
 ghost use Rattle.numbers.specs.Below.{AllBelow};
@@ -39,14 +40,14 @@ const COUNT: usize = 4737;
 pub const TRAY: usize = 4738;
 
 // That the tray was edited, or why it is as it was.
-#[derive(Drop)]
+#[derive(Clone, Copy)]
 pub enum TrayEdit {
     Done,
     Refused(Refusal),
 }
 
 // How many lines have sums that are not all 0, or why that cannot be told.
-#[derive(Drop)]
+#[derive(Clone, Copy)]
 pub enum TrayCount {
     Wrong { count: u8 },
     Refused(Refusal),
@@ -235,8 +236,8 @@ fn fill(room: &mut [u8], line: &[u8], sums: [u8; SUMS])
     requires line_len { length line.now ≡ 63 }
     ensures { room.new ≡ line.now ++ sums }
 {
-    bytes::copy(line, room);
-    bytes::copy(&sums, &mut room[LINE..]);
+    copying::copy(line, room);
+    copying::copy(&sums, &mut room[LINE..]);
 }
 
 // Replaces the character at an address of a room, and adds the share of the change to each of its sums.

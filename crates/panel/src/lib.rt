@@ -1,4 +1,5 @@
 // Harmless text for a panel: the text of a line, with the five bytes that a panel takes for its own written by name.
+#![tactic(auto)]
 ghost use Rattle.std.specs.Prelude.{◌≡◌, ◌+◌, ◌<◌, ◌≤◌, length};
 ghost use Rattle.code.specs.Word.{Characters};
 ghost use Rattle.text.specs.Writing.{Puts};
@@ -21,14 +22,14 @@ const ROOM: usize = 294;
 const FIRST: u8 = 32;
 
 // How many bytes were written; or why none.
-#[derive(Drop)]
+#[derive(Clone, Copy)]
 pub enum PanelText {
     Written { length: u16 },
     Refused(Refusal),
 }
 
 // What a text is read as: plain, or refused.
-#[derive(Drop)]
+#[derive(Clone, Copy)]
 enum TextReading {
     Plain,
     Refused(Refusal),

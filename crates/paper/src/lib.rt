@@ -1,4 +1,5 @@
 // Reading a line as the control processor of 1968 did, in the order and the words of 001: a number of errors is assumed, two square systems are solved for it, and the line is rechecked.
+#![tactic(auto)]
 ghost use Rattle.std.specs.Prelude.{◌≡◌, ◌+◌, ◌-◌, ◌<◌, ◌≤◌, length, drop};
 ghost use Rattle.refusal.specs.Promise.{Tells};
 ghost use Rattle.field.specs.Field.{power};
@@ -28,7 +29,7 @@ const ALPHA: u8 = 2;
 const FIRST_POINT: u8 = 63;
 
 // A line that was tried.
-#[derive(Drop)]
+#[derive(Clone, Copy)]
 struct Tried {
     found: bool,
     line: [u8; 63],
@@ -51,7 +52,7 @@ fn held(word: &[u8]) -> [u8; 63]
     ensures { result ≡ word.now }
 {
     let mut buffer = [0u8; 63];
-    bytes::copy(word, &mut buffer);
+    copying::copy(word, &mut buffer);
     buffer
 }
 

@@ -1,4 +1,6 @@
 // Powers of α and logarithms, each by a table, and products and quotients by them.
+#![tactic(auto)]
+
 ghost use Rattle.std.specs.Prelude.{◌≡◌, ◌%◌, ◌<◌};
 ghost use Rattle.field.specs.Field.{product, α, power};
 ghost use Rattle.field.specs.Inside.{inverse};

@@ -1,4 +1,6 @@
 // 64 elements at a time, a word of 64 bits for each of their six bits: their sums and products, and the roots of a polynomial among the 63 powers of α, all at once.
+#![tactic(auto)]
+
 ghost use Rattle.std.specs.Prelude.{◌%◌};
 ghost use Rattle.planes.specs.Roots.{RootsOf, FirstFrom};
 ghost use Rattle.planes.specs.Slices.{BitSpread, Everywhere, Doubled, Added, OnlyAt, NextBit, PlaceMultiplied, ZerosOf};
@@ -23,7 +25,7 @@ const ALL_PLACES: u64 = 9223372036854775807;
 const PAST_PLACES: u64 = 9223372036854775808;
 
 // Elements at 64 places: bit l of plane t is bit t of the element at l.
-#[derive(Drop)]
+#[derive(Clone, Copy)]
 pub struct Planes {
     pub b0: u64,
     pub b1: u64,

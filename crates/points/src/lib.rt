@@ -1,4 +1,6 @@
 // The value of a word at ten points, packed, 21 characters at a time.
+#![tactic(auto)]
+
 ghost use Rattle.std.specs.Prelude.{◌≡◌, [], ◌∷◌, ◌+◌, ◌≤◌, length};
 ghost use Rattle.lanes.specs.Lanes.{pack};
 ghost use Rattle.points.specs.Value.{value, run, values_of};

@@ -1,9 +1,11 @@
 // The numbered refusals, by name: what is wrong, and the number that the paper gives it. tools/tables writes the cases from refusals.txt.
+#![tactic(auto)]
+
 ghost use Rattle.std.specs.Prelude.{◌≡◌};
 ghost use Rattle.refusal.specs.Number.{number_of};
 
 // Why a call was refused.
-#[derive(Drop)]
+#[derive(Clone, Copy)]
 pub enum Refusal {
     InputLength,
     ValueOver,

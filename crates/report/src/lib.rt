@@ -1,4 +1,5 @@
 // The report of a tray file: a header, one line an item, and a closing line.
+#![tactic(auto)]
 ghost use Rattle.std.specs.Prelude.{◌≡◌, [], ◌∷◌, ◌≤◌, length, get_or, drop};
 ghost use Rattle.refusal.specs.Number.{number_of};
 ghost use Rattle.report.specs.declared.Kind.TheVariants.{Block};
@@ -20,14 +21,14 @@ pub const ROOM: usize = 13807;
 // The longest file that is all used: the radius, and after their counts 255 lines, 255 rings and 255 blocks, each a count and 255 rows.
 pub const LONGEST: usize = 97414;
 
-#[derive(Drop)]
+#[derive(Clone, Copy)]
 pub enum Reported {
     Text { length: usize },
     Refused(Refusal),
 }
 
 // The kinds of items, in the order of their sections.
-#[derive(Drop)]
+#[derive(Clone, Copy)]
 enum Kind {
     Line,
     Ring,
@@ -35,7 +36,7 @@ enum Kind {
 }
 
 // Where the bytes of an item stand in the file, if it is whole.
-#[derive(Drop)]
+#[derive(Clone, Copy)]
 struct Part {
     start: usize,
     end: usize,
@@ -43,7 +44,7 @@ struct Part {
 }
 
 // Where a section ends: its place in the file, the place after its lines, its count, and whether the file stops early.
-#[derive(Drop)]
+#[derive(Clone, Copy)]
 struct Ended {
     at: usize,
     next: usize,

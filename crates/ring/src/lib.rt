@@ -1,4 +1,5 @@
 // Rings: the starts at which a line lies within the radius, and reading the line at the one start.
+#![tactic(auto)]
 ghost use Rattle.std.specs.Prelude.{◌≡◌, [], ◌∷◌, ◌+◌, ◌<◌, ◌≤◌, length};
 ghost use Rattle.refusal.specs.Promise.{Tells};
 ghost use Rattle.sums.specs.Held.{eleven};
@@ -25,14 +26,14 @@ const SAME: u8 = 11;
 // Up to this radius one pattern of errors decides every ring.
 const DECIDED: u8 = 2;
 
-#[derive(Drop)]
+#[derive(Clone, Copy)]
 pub enum RingListing {
     Listed { count: u8 },
     Refused(Refusal),
 }
 
 // The start, the line's number, its distance from the word there, and the first and the last changed address of that word; or why there is no one line.
-#[derive(Drop)]
+#[derive(Clone, Copy)]
 pub enum RingReading {
     Line {
         start: u8,
@@ -45,7 +46,7 @@ pub enum RingReading {
 }
 
 // The starts that may be listed, the forward ones and the backward ones: a bit for each.
-#[derive(Drop)]
+#[derive(Clone, Copy)]
 struct Undecided {
     forward: u64,
     backward: u64,

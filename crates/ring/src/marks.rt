@@ -2,7 +2,7 @@
 ghost use Rattle.ring.specs.Marks.{MarksIn, MarksAtAll};
 
 // The power sums of the marks at each start: of each start ten packed, and the last.
-#[derive(Drop)]
+#[derive(Clone, Copy)]
 pub struct AllMarks {
     pub firsts: [u64; 126],
     pub lasts: [u8; 126],

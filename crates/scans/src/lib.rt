@@ -1,4 +1,5 @@
 // Two scans of one line: which of them is kept for the file, and that scan's own bytes.
+#![tactic(auto)]
 ghost use Rattle.std.specs.Prelude.{◌≡◌};
 ghost use Rattle.scans.specs.Promises.{choice_numbers, Chooses, Better};
 ghost use Rattle.scans.specs.Scans.{Answers, beside_of, instead_of, choice_of};
@@ -7,7 +8,7 @@ use line::{LineReading, Wanted};
 use refusal::Refusal;
 
 // Which of two scans is kept, or the refusal of the first where both are refused.
-#[derive(Drop)]
+#[derive(Clone, Copy)]
 pub enum Choice {
     First,
     Second,

@@ -1,4 +1,5 @@
 // Sheets, 63 lines of 63 characters: taken and written whole, marks taken off or put on, of a line and of all, a column taken out, and one written.
+#![tactic(auto)]
 ghost use Rattle.std.specs.Prelude.{◌≡◌};
 ghost use Rattle.sheet.specs.Inside.{Taken, Put, MarksAdded, bare, plain_column, ColumnPut};
 
@@ -16,7 +17,7 @@ pub fn taken(given: &[u8]) -> [u8; SHEET]
     if given.len() != SHEET {
         return s;
     }
-    bytes::copy(given, &mut s);
+    copying::copy(given, &mut s);
     s
 }
 
@@ -27,7 +28,7 @@ pub fn put(s: [u8; SHEET], output: &mut [u8])
     if output.len() != SHEET {
         return;
     }
-    bytes::copy(&s, output);
+    copying::copy(&s, output);
 }
 
 // Adds the marks to a line: off where they were on, and on where they were off. To anything else nothing is added.

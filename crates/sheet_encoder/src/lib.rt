@@ -1,4 +1,5 @@
 // Encoding a sheet: 52 lines from their texts and numbers, and eleven more that the columns force.
+#![tactic(auto)]
 ghost use Rattle.refusal.specs.Promise.{Tells};
 ghost use Rattle.numbers.specs.Below.{AllBelow};
 ghost use Rattle.code.specs.Word.{Characters};
@@ -18,7 +19,7 @@ const TEXT: usize = 50;
 const TEXTS: usize = 2600;
 
 // The answer of encoding a sheet.
-#[derive(Drop)]
+#[derive(Clone, Copy)]
 pub enum SheetEncoding {
     Written,
     Refused(Refusal),
@@ -101,7 +102,7 @@ fn clean_word(column: [u8; SIDE]) -> [u8; SIDE]
     ensures { Completes column result }
 {
     let mut known = [0u8; SIDE];
-    bytes::copy(&column[..FREE], &mut known);
+    copying::copy(&column[..FREE], &mut known);
     let mut word = [0u8; SIDE];
     encoder::put_line(known, &mut word);
     sheet::add_marks(&mut word);

@@ -1,4 +1,5 @@
 // Reading a sheet: rounds of lines and columns, until one ends as it began or eight are done.
+#![tactic(auto)]
 ghost use Rattle.std.specs.Prelude.{◌≡◌, length};
 ghost use Rattle.refusal.specs.Promise.{Tells};
 ghost use Rattle.code.specs.Word.{Clean};
@@ -21,7 +22,7 @@ const RADIUS: usize = 5;
 const FREE: usize = 52;
 
 // How many rounds were run, and whether what they left, which is written, is proper; or why none was run, and then nothing is written.
-#[derive(Drop)]
+#[derive(Clone, Copy)]
 pub enum SheetReading {
     Proper { rounds: u8 },
     Improper { rounds: u8 },
@@ -29,7 +30,7 @@ pub enum SheetReading {
 }
 
 // What rounds leave: a sheet without its marks, how many they were, and whether it is proper.
-#[derive(Drop)]
+#[derive(Clone, Copy)]
 struct Settled {
     sheet: [u8; SHEET],
     rounds: u8,

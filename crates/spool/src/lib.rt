@@ -1,4 +1,5 @@
 // Reading a spool: up to 255 lines in one call, each as if it were read by itself.
+#![tactic(auto)]
 ghost use Rattle.std.specs.Prelude.{◌≡◌, ◌*◌, ◌≤◌, length};
 ghost use Rattle.line.specs.declared.Wanted.TheVariants.{Any};
 ghost use Rattle.line.specs.Promises.{plain_numbers, Reads};
@@ -17,14 +18,14 @@ pub const PLACES: usize = 255;
 const SPOOL: usize = 16065;
 
 // That the lines were read, each as its place tells; or why none was.
-#[derive(Drop)]
+#[derive(Clone, Copy)]
 pub enum SpoolAnswer {
     Read,
     Refused(Refusal),
 }
 
 // What reading each line answers, line by line, with zeros past the last line and in a refusal; and the answer of the call.
-#[derive(Drop)]
+#[derive(Clone, Copy)]
 pub struct Spooled {
     pub places: [PlainReading; PLACES],
     pub answer: SpoolAnswer,

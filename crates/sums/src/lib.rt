@@ -1,4 +1,6 @@
 // The eleven power sums of a word by tables, several to a number, and the form that holds them packed.
+#![tactic(auto)]
+
 ghost use Rattle.std.specs.Prelude.{◌≡◌, ◌≤◌, length};
 ghost use Rattle.code.specs.Word.{added};
 ghost use Rattle.code.specs.Inside.{PowerSums};
@@ -8,14 +10,14 @@ ghost use Rattle.sums.specs.Packed.{Packed, Filled};
 use lanes::{FIVE_LANES, FOUR_LANES, NINE_LANES, SIX_LANES};
 
 // The eleven power sums, S_-5 first: ten in the lanes of one number, the last beside it.
-#[derive(Drop)]
+#[derive(Clone, Copy)]
 pub struct Sums {
     pub first: u64,
     pub last: u8,
 }
 
 // The same sums as the tables give them: S_-5 to S_-1 and S_1 to S_5 in the lanes of one number, the first lowest, and S_0 beside it.
-#[derive(Drop)]
+#[derive(Clone, Copy)]
 struct PackedSums {
     outer: u64,
     middle: u8,

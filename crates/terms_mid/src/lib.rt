@@ -1,4 +1,6 @@
 // What a character with 7 to 13 characters after it adds to ten power sums, packed: a table for each number of them.
+#![tactic(auto)]
+
 ghost use Rattle.std.specs.Prelude.{◌≡◌};
 ghost use Rattle.lanes.specs.Lanes.{pack};
 ghost use Rattle.terms.specs.Terms.{term};

@@ -1,1 +1,2 @@
 // Runs of operations on a tray kept open: theory alone.
+#![tactic(auto)]

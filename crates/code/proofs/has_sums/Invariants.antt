@@ -1,0 +1,11 @@
+-- `code::has_sums` meets its contract: the loop keeps that the sums passed are the word's, and the point of the next.
+use Prim.Native.Nat.{◌-◌}
+use borrow.Author.Rules.{rules}
+use Rattle.code.proofs.Loops.{SumsTo, sums_none, sums_again, sums_all, sums_not}
+use Rattle.code.proofs.has_sums.Given as goal
+
+abbrev pub invariant-loop-k : goal.invariant-loop-k
+invariant-loop-k l = SumsTo l.word l.sums l.x l.k
+
+abbrev pub decreases-loop-k : goal.decreases-loop-k
+decreases-loop-k l = 11 - l.k

@@ -1,0 +1,18 @@
+-- `eights::xor_of` meets its contract: the loop keeps that the bytes of z sum to those passed.
+use Prim.Native.Nat.{◌-◌}
+use lib.ListN.{length}
+use borrow.Author.Rules.{rules}
+use Rattle.eights.proofs.Loops.{XorTo, xor_start, xor_again, xor_all, xor_few}
+use Rattle.eights.proofs.xor_of.Goals as goal
+
+pub returns-then-n-lt8 : goal.returns-then-n-lt8
+returns-then-n-lt8 c = search (xor_few, rules)
+
+pub loop-i-init : goal.loop-i-init
+loop-i-init c = search (xor_start, rules)
+
+pub loop-i-preserved : goal.loop-i-preserved
+loop-i-preserved c = search (xor_again, rules)
+
+pub returns : goal.returns
+returns c = search (xor_all, rules)

@@ -1,0 +1,7 @@
+-- `lanes::sum_of` meets its contract: five pairs of lanes, added.
+use borrow.Author.Rules.{rules}
+use Rattle.lanes.proofs.Loops.{ten_summed}
+use Rattle.lanes.proofs.sum_of.Goals as goal
+
+pub returns : goal.returns
+returns c = ten_summed _

@@ -1,0 +1,10 @@
+-- `planes::roots` meets its contract: by Horner's rule, from the highest coefficient down, at every place.
+use borrow.Author.Rules.{rules}
+use Rattle.planes.proofs.Loops.{TakenFrom, taken_last, taken_again, taken_all}
+use Rattle.planes.proofs.roots.Given as goal
+
+abbrev pub invariant-loop-k : goal.invariant-loop-k
+invariant-loop-k l = TakenFrom l.p l.v l.k
+
+abbrev pub decreases-loop-k : goal.decreases-loop-k
+decreases-loop-k l = l.k

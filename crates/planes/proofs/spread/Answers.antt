@@ -1,0 +1,7 @@
+-- `planes::spread` meets its contract: the bit times 63 ones.
+use borrow.Author.Rules.{rules}
+use Rattle.planes.proofs.Loops.{spread_bit}
+use Rattle.planes.proofs.spread.Goals as goal
+
+pub returns : goal.returns
+returns c = spread_bit _

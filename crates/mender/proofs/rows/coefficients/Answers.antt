@@ -1,0 +1,14 @@
+-- `mender::rows::coefficients` meets its contract: the coefficients before k are set, and q has those from k on.
+use borrow.Author.Rules.{rules}
+use Prim.Native.Nat.{◌≤◌, ◌-◌}
+use Rattle.mender.proofs.rows.Loops.{CoefficientsTo, coefficients_none, coefficients_again, coefficients_all}
+use Rattle.mender.proofs.rows.coefficients.Goals as goal
+
+pub loop-k-init : goal.loop-k-init
+loop-k-init c = search (coefficients_none, rules)
+
+pub loop-k-preserved : goal.loop-k-preserved
+loop-k-preserved c = search (coefficients_again, rules)
+
+pub returns : goal.returns
+returns c = search (coefficients_all, rules)

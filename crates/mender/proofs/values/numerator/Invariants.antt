@@ -1,0 +1,13 @@
+-- `mender::values::numerator` meets its contract: the sums from n + k on are in.
+use borrow.Author.Rules.{rules}
+use mathlib.Core.Path.{◌≡◌}
+use Prim.Native.Nat.{◌≤◌, ◌*◌, ◌/◌, ◌^◌}
+use Rattle.mender.specs.Values.{lanes_of}
+use Rattle.mender.proofs.values.Loops.{NumeratorTo, numerator_none, numerator_inside, numerator_turn, numerator_all}
+use Rattle.mender.proofs.values.numerator.Given as goal
+
+abbrev pub invariant-loop-k : goal.invariant-loop-k
+invariant-loop-k l = (l.n ≤ 5) × (l.from ≡ l.sums / 2 ^ (6 * l.n)) × NumeratorTo l.q (lanes_of l.sums) l.n l.c l.k
+
+abbrev pub decreases-loop-k : goal.decreases-loop-k
+decreases-loop-k l = l.k

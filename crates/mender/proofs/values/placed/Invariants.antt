@@ -1,0 +1,12 @@
+-- `mender::values::placed` meets its contract: the roots below l have their values, and no other place has one.
+use borrow.Author.Rules.{rules}
+use Prim.Native.Nat.{◌-◌}
+use mathlib.Core.Logic.{⊎_elim}
+use Rattle.mender.proofs.values.Placing.{PlacedTo, placed_none, placed_long, placed_room, turn_some, turn_none, placed_all}
+use Rattle.mender.proofs.values.placed.Given as goal
+
+abbrev pub invariant-loop-l : goal.invariant-loop-l
+invariant-loop-l l = PlacedTo l.roots l.f l.n l.w l.count l.first l.last l.values l.left l.l
+
+abbrev pub decreases-loop-l : goal.decreases-loop-l
+decreases-loop-l l = 63 - l.l

@@ -1,0 +1,11 @@
+-- `mender::values::places_from` meets its contract: the first i places are in the highest of five lanes.
+use borrow.Author.Rules.{rules}
+use Prim.Native.Nat.{◌-◌}
+use Rattle.mender.proofs.values.Loops.{PlacesTo, places_none, place_fits, places_fit, places_again, places_all}
+use Rattle.mender.proofs.values.places_from.Given as goal
+
+abbrev pub invariant-loop-i : goal.invariant-loop-i
+invariant-loop-i l = PlacesTo l.roots l.l l.x l.at l.i
+
+abbrev pub decreases-loop-i : goal.decreases-loop-i
+decreases-loop-i l = 5 - l.i

@@ -1,5 +1,6 @@
 // Parity blocks: reading within one bit, and encoding.
 #![tactic(auto)]
+
 ghost use Rattle.std.specs.Prelude.{◌≡◌, ◌+◌, ◌*◌, ◌/◌, ◌≤◌, length};
 ghost use Rattle.eights.specs.Inside.{HoldsBytes, eight_from};
 ghost use Rattle.block.specs.Block.{ones, Sevens};

@@ -1,5 +1,6 @@
 // How clear a scan is: the signal ratio of 378 cell brightnesses under a threshold, squared, with both means; and the counts of a spool of scans.
 #![tactic(auto)]
+
 ghost use Rattle.std.specs.Prelude.{◌≡◌, ◌+◌, ◌-◌, ◌*◌, ◌^◌, ◌<◌, ◌≤◌, length};
 ghost use Rattle.clarity.specs.Scan.{dark_side, bright_side, numerator, quotient, clarity_of};
 ghost use Rattle.clarity.specs.Promises.{clarity_numbers, given_of, Clarifies, count_numbers, CountsSpool};

@@ -1,5 +1,6 @@
 // The encoder: a line at once, and the recorder's register, which takes one character at a time.
 #![tactic(auto)]
+
 ghost use Rattle.std.specs.Prelude.{◌≡◌, ◌++◌, length, get_or, take};
 ghost use Rattle.refusal.specs.Promise.{Tells};
 ghost use Rattle.code.specs.Word.{Characters};

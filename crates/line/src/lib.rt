@@ -1,5 +1,6 @@
 // Reading a line: the line within the radius, or a refusal exactly when there is none.
 #![tactic(auto)]
+
 ghost use Rattle.std.specs.Prelude.{◌≡◌, length};
 ghost use Rattle.refusal.specs.Promise.{Tells};
 ghost use Rattle.sums.specs.Held.{eleven};

@@ -224,7 +224,7 @@ root_twice p (suc k) x once twice r h a e o t z n =
     simple p k x s.monic pos a.small (a.root pos) rs s (ap (λ (q : List ℕ). poly_at q x) (sym o.quotient) ∙ sym t.remainder ∙ z))
 
 -- each way to none of any degree
-pub ruleset none-of-any = (over_five, no_root, root_twice)
+pub ruleset none_of_any = (over_five, no_root, root_twice)
 
 pub one_more : (p : List ℕ) (d x : ℕ) (once twice : Division) (r : Locations) → (d ≡ 0 → ⊥) → d ≤ 5 → Tried p x → (x ≡ 0 → ⊥) → Divides p x once
     → Divides once.quotient x twice → (twice.remainder ≡ 0 → ⊥) → Finds once.quotient (d - 1) r

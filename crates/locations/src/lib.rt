@@ -1,5 +1,6 @@
 // The error locations: the roots of a polynomial, by trial and error using synthetic division, and directly where it is of order one or two.
 #![tactic(auto)]
+
 ghost use Rattle.std.specs.Prelude.{◌≡◌, ◌<◌, get_or};
 ghost use Rattle.locations.specs.Roots.{Finds, Nowhere, Divides, Tried, halves};
 

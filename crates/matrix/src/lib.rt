@@ -1,5 +1,6 @@
 // The matrix-solving program: square systems of up to five equations by row reduction, on an array of arrays that is passed by value and handed back.
 #![tactic(auto)]
+
 ghost use Rattle.std.specs.Prelude.{◌≡◌, [], min, ◌%◌, ◌<◌, ◌≤◌, get_or, set};
 ghost use Rattle.refusal.specs.Promise.{Tells};
 ghost use Rattle.matrix.specs.System.{Solves};

@@ -1,5 +1,6 @@
 // Which of 63 places have eleven sums that no errors have, told at all places at once: the six windows of such sums are the rows of a regular matrix.
 #![tactic(auto)]
+
 ghost use Rattle.std.specs.Prelude.{[], ◌∷◌, ◌<◌};
 ghost use Rattle.regular.specs.Pivots.{SumPlanes, PivotsWhere, PivotsOfSums, ElementsAt, Upper};
 ghost use Rattle.regular.specs.Promises.{NoErrorsWhere};

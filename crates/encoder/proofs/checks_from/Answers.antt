@@ -1,0 +1,6 @@
+-- `encoder::checks_from` meets its contract: the ten, and the eleventh.
+use borrow.Author.Rules.{rules}
+use Rattle.encoder.proofs.checks_from.Goals as goal
+
+pub returns : goal.returns
+returns c = rw c.unpacked.ensures c.ten_checks.ensures

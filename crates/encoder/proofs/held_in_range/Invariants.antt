@@ -1,0 +1,11 @@
+-- `encoder::held_in_range` meets its contract: one number over 63 among those passed makes their union over 63.
+use borrow.Author.Rules.{rules}
+use Prim.Native.Nat.{◌-◌}
+use Rattle.encoder.proofs.Loops.{AllTo, all_none, all_again, all_over, all_low}
+use Rattle.encoder.proofs.held_in_range.Given as goal
+
+abbrev pub invariant-loop-i : goal.invariant-loop-i
+invariant-loop-i l = AllTo l.held l.all l.i
+
+abbrev pub decreases-loop-i : goal.decreases-loop-i
+decreases-loop-i l = 11 - l.i

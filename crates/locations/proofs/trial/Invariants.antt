@@ -1,0 +1,11 @@
+-- `locations::trial` meets its contract: no element tried so far is a root.
+use borrow.Author.Rules.{rules}
+use Prim.Native.Nat.{◌≤◌, ◌<◌, ◌-◌}
+use Rattle.locations.proofs.Loops.{Missed, missed_none, missed_more, tried_here, tried_none}
+use Rattle.locations.proofs.trial.Given as goal
+
+abbrev pub invariant-loop-x : goal.invariant-loop-x
+invariant-loop-x l = (0 < l.x) × ((l.x ≤ 64) × Missed l.p l.x)
+
+abbrev pub decreases-loop-x : goal.decreases-loop-x
+decreases-loop-x l = 64 - l.x

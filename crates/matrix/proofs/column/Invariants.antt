@@ -1,0 +1,11 @@
+-- `matrix::column` meets its contract: the entries passed are those of the column.
+use Prim.Native.Nat.{◌-◌}
+use borrow.Author.Rules.{rules}
+use Rattle.matrix.proofs.Turns.{ColumnTo, column_none, column_again, column_all}
+use Rattle.matrix.proofs.column.Given as goal
+
+abbrev pub invariant-loop-i : goal.invariant-loop-i
+invariant-loop-i l = ColumnTo l.r l.n l.p l.i
+
+abbrev pub decreases-loop-i : goal.decreases-loop-i
+decreases-loop-i l = l.n - l.i

@@ -1,0 +1,12 @@
+-- `matrix::reduced` meets its contract: the columns passed are unit columns, and what is divided by is a pivot.
+use Prim.Native.Nat.{◌-◌}
+use native.Mathlib.Omega.{arith}
+use borrow.Author.Rules.{rules}
+use Rattle.matrix.proofs.Reducing.{ReducedTo, reduced_none, pivot_divides, reduced_turn, reduced_all, reduced_stuck}
+use Rattle.matrix.proofs.reduced.Given as goal
+
+abbrev pub invariant-loop-t : goal.invariant-loop-t
+invariant-loop-t l = ReducedTo l.n l.initial.m l.m l.t
+
+abbrev pub decreases-loop-t : goal.decreases-loop-t
+decreases-loop-t l = l.n - l.t

@@ -1,5 +1,6 @@
 // Runs the rows of the bench sheet in its order, and prints for each what was answered; the starred rows are proved besides, in proofs/Sheet.antt.
 #![tactic(auto)]
+
 use block::{BlockEncoding, BlockReading};
 use encoder::LineEncoding;
 use field::Element;

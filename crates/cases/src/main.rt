@@ -28,6 +28,7 @@
 // A new call is a constant, a function that hands it over and shows its answer, and an arm of `hand_over`. The second program has the same
 // constant, and makes the cases (second/cases.rs).
 #![tactic(auto)]
+
 ghost use Rattle.std.specs.Prelude.{◌≡◌, ◌≤◌, length};
 
 use film::FilmElement;

@@ -1,5 +1,6 @@
 // The tray program: reads a tray file from standard input, and prints its report.
 #![tactic(auto)]
+
 use libc::{STDIN_FILENO, STDOUT_FILENO};
 use report::Reported;
 

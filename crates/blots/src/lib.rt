@@ -1,5 +1,6 @@
 // Reading a line with blots: the line that differs from the word in e characters outside the f blots, 2 e + f at most 11.
 #![tactic(auto)]
+
 ghost use Rattle.std.specs.Prelude.{◌≡◌, false, ◌^◌, ◌<◌, ◌≤◌, length};
 ghost use Rattle.refusal.specs.Promise.{Tells};
 ghost use Rattle.polynomial.specs.Sums.{weight};

@@ -1,5 +1,6 @@
 // A tray kept open: up to 64 lines with their power sums, edited one step at a time, and a count of those whose sums are not all 0.
 #![tactic(auto)]
+
 ghost use Rattle.std.specs.Prelude.{◌≡◌, ◌++◌, ◌-◌, ◌≤◌, ◌<◌, length, drop};
 ghost use Rattle.refusal.specs.Promise.{Tells};
 ghost use Rattle.numbers.specs.Below.{AllBelow};

@@ -1,5 +1,6 @@
 // Harmless text for a panel: the text of a line, with the five bytes that a panel takes for its own written by name.
 #![tactic(auto)]
+
 ghost use Rattle.std.specs.Prelude.{◌≡◌, ◌+◌, ◌<◌, ◌≤◌, length};
 ghost use Rattle.code.specs.Word.{Characters};
 ghost use Rattle.text.specs.Writing.{Puts};

@@ -1,5 +1,6 @@
 // Reading a line as the control processor of 1968 did, in the order and the words of 001: a number of errors is assumed, two square systems are solved for it, and the line is rechecked.
 #![tactic(auto)]
+
 ghost use Rattle.std.specs.Prelude.{◌≡◌, ◌+◌, ◌-◌, ◌<◌, ◌≤◌, length, drop};
 ghost use Rattle.refusal.specs.Promise.{Tells};
 ghost use Rattle.field.specs.Field.{power};

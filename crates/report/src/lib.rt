@@ -1,5 +1,6 @@
 // The report of a tray file: a header, one line an item, and a closing line.
 #![tactic(auto)]
+
 ghost use Rattle.std.specs.Prelude.{◌≡◌, [], ◌∷◌, ◌≤◌, length, get_or, drop};
 ghost use Rattle.refusal.specs.Number.{number_of};
 ghost use Rattle.report.specs.declared.Kind.TheVariants.{Block};

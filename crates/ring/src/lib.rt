@@ -1,5 +1,6 @@
 // Rings: the starts at which a line lies within the radius, and reading the line at the one start.
 #![tactic(auto)]
+
 ghost use Rattle.std.specs.Prelude.{◌≡◌, [], ◌∷◌, ◌+◌, ◌<◌, ◌≤◌, length};
 ghost use Rattle.refusal.specs.Promise.{Tells};
 ghost use Rattle.sums.specs.Held.{eleven};

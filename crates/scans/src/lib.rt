@@ -1,5 +1,6 @@
 // Two scans of one line: which of them is kept for the file, and that scan's own bytes.
 #![tactic(auto)]
+
 ghost use Rattle.std.specs.Prelude.{◌≡◌};
 ghost use Rattle.scans.specs.Promises.{choice_numbers, Chooses, Better};
 ghost use Rattle.scans.specs.Scans.{Answers, beside_of, instead_of, choice_of};

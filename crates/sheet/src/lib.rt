@@ -1,5 +1,6 @@
 // Sheets, 63 lines of 63 characters: taken and written whole, marks taken off or put on, of a line and of all, a column taken out, and one written.
 #![tactic(auto)]
+
 ghost use Rattle.std.specs.Prelude.{◌≡◌};
 ghost use Rattle.sheet.specs.Inside.{Taken, Put, MarksAdded, bare, plain_column, ColumnPut};
 

@@ -1,5 +1,6 @@
 // Encoding a sheet: 52 lines from their texts and numbers, and eleven more that the columns force.
 #![tactic(auto)]
+
 ghost use Rattle.refusal.specs.Promise.{Tells};
 ghost use Rattle.numbers.specs.Below.{AllBelow};
 ghost use Rattle.code.specs.Word.{Characters};

@@ -1,6 +1,7 @@
 // Blocks that outlast a smudge: reading a stored block of which one window may be smudged, and encoding one. Inside, the eight rows are one number, the cell in
 // row i and column j at bit 8 i + j.
 #![tactic(auto)]
+
 ghost use Rattle.std.specs.Prelude.{◌≡◌, length};
 ghost use Rattle.std.specs.Int.Count.{ones};
 ghost use Rattle.eights.specs.Inside.{HoldsBytes, eight_from};

@@ -1,5 +1,6 @@
 // Reading a spool: up to 255 lines in one call, each as if it were read by itself.
 #![tactic(auto)]
+
 ghost use Rattle.std.specs.Prelude.{◌≡◌, ◌*◌, ◌≤◌, length};
 ghost use Rattle.line.specs.declared.Wanted.TheVariants.{Any};
 ghost use Rattle.line.specs.Promises.{plain_numbers, Reads};

@@ -1,5 +1,6 @@
 // Lines of text in a lent buffer: a word, and decimal numbers after single spaces. What does not fit is left out.
 #![tactic(auto)]
+
 ghost use Rattle.std.specs.Prelude.{[], ◌∷◌};
 ghost use Rattle.text.specs.Text.{decimal, fields, line};
 ghost use Rattle.text.specs.Writing.{Puts};

@@ -61,13 +61,13 @@ pub +errors-of-spec : {M : Type 1} → statement M
     (λ c. search (some_sum, rules))
     (λ c. search rules)
     (λ c κs.
-    (search (one_fewer, rules), next_call c.before.before.before.first-set.ensures (search rules) (search rules) (search rules) (search rules)))
+    (search (one_fewer, rules), next_call c.before.before.before.first_set-blot.ensures (search rules) (search rules) (search rules) (search rules)))
     (λ c κs. search rules)
     (λ c. search (none_cleared, not-true, rules))
     (λ c. search (word_long, not-false, rules))
     (λ c κs. search rules)
     (λ c.
-    let some : get_or c.before.before.before.before.before.errors-of.result.word c.before.before.before.before.before.before.before.before.before.first_set_lem.result 0 ≡ 0 → ⊥ = λ z. omega arith in
+    let some : get_or c.before.before.before.before.before.errors_of-cleared.result.word c.before.before.before.before.before.before.before.before.before.first_set_lem.result 0 ≡ 0 → ⊥ = λ z. omega arith in
     search (none_there, not-false, rules))
     (λ c. search rules)
     (λ c κs. (search rules, (search (word_is, not-false) depth 9, search (word_set, not-false) depth 9)))

@@ -1,0 +1,32 @@
+-- `open_tray::drop_line` meets its contract: each refusal by its own test, in the paper's order; and the line lost.
+use borrow.Author.Rules.{rules}
+use Rattle.numbers.proofs.Cases.{pos_of_not_zero}
+use Rattle.refusal.proofs.Ladder.{verdicts, told_yes}
+use Rattle.open_tray.proofs.Ways.{none_left, one_left, may_look_last, last_unsound, last_sound, may_drop, drop_refused, line_dropped}
+use Rattle.open_tray.proofs.drop_line.Goals as goal
+
+pub returns-then-not-fits : goal.returns-then-not-fits
+returns-then-not-fits c = drop_refused _ 0 (search verdicts)
+
+pub returns-then-held-eq0 : goal.returns-then-held-eq0
+returns-then-held-eq0 c = drop_refused _ 1 (search (none_left, verdicts, rules) depth 9)
+
+pub overflow_sub-last : goal.overflow_sub-last
+overflow_sub-last c = pos_of_not_zero _ c.if-held-eq0.false
+
+pub sound-requires : goal.sound-requires
+sound-requires c =     let t = c.args.tray.now in
+    let h = c.byte_at-held in
+    may_look_last t h.result h.ensures (told_yes c.fits2.ensures c.if-not-fits.false-raw) (one_left t h.result h.ensures c.if-held-eq0.false)
+
+pub returns-then-not-sound : goal.returns-then-not-sound
+returns-then-not-sound c = drop_refused _ 2 (search (one_left, last_unsound, verdicts, rules) depth 9)
+
+pub lose_line-requires : goal.lose_line-requires
+lose_line-requires c =     let t = c.args.tray.now in
+    let h = c.byte_at-held in
+    may_drop t h.result h.ensures (told_yes c.fits2.ensures c.if-not-fits.false-raw) (one_left t h.result h.ensures c.if-held-eq0.false)
+    (told_yes c.sound.ensures c.if-not-sound.false-raw)
+
+pub returns : goal.returns
+returns c = line_dropped _ _ (search (one_left, last_sound, verdicts, rules) depth 9) (search rules)

@@ -1,0 +1,12 @@
+-- `open_tray::wrong_of` meets its contract: the sums passed are 0.
+use Prim.Native.Nat.{◌-◌}
+use borrow.Author.Rules.{rules}
+use lib.ListN.{length}
+use Rattle.open_tray.proofs.Sums.{ZeroTo, zero_none, zero_again, zero_not, zero_all}
+use Rattle.open_tray.proofs.wrong_of.Given as goal
+
+abbrev pub invariant-loop-k : goal.invariant-loop-k
+invariant-loop-k l = ZeroTo l.sums l.k
+
+abbrev pub decreases-loop-k : goal.decreases-loop-k
+decreases-loop-k l = length l.sums - l.k

@@ -1,0 +1,11 @@
+-- `paper::all_zero` meets its contract: the sums passed are 0.
+use Prim.Native.Nat.{◌-◌}
+use borrow.Author.Rules.{rules}
+use Rattle.paper.proofs.Loops.{ZerosTo, zeros_none, zeros_again, zeros_all, zeros_not}
+use Rattle.paper.proofs.all_zero.Given as goal
+
+abbrev pub invariant-loop-i : goal.invariant-loop-i
+invariant-loop-i l = ZerosTo l.sums l.i
+
+abbrev pub decreases-loop-i : goal.decreases-loop-i
+decreases-loop-i l = 11 - l.i

@@ -1,0 +1,12 @@
+-- `paper::circuit` meets its contract: the characters passed are added by Horner's rule.
+use Prim.Native.Nat.{◌-◌}
+use borrow.Author.Rules.{rules}
+use Rattle.code.proofs.Loops.{ValueTo, value_none}
+use Rattle.paper.proofs.Loops.{circuit_again, circuit_all}
+use Rattle.paper.proofs.circuit.Given as goal
+
+abbrev pub invariant-loop-a : goal.invariant-loop-a
+invariant-loop-a l = ValueTo l.word l.x l.v l.a
+
+abbrev pub decreases-loop-a : goal.decreases-loop-a
+decreases-loop-a l = 63 - l.a

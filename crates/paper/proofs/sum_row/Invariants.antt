@@ -1,0 +1,11 @@
+-- `paper::sum_row` meets its contract: the sums passed stand in the row.
+use Prim.Native.Nat.{◌+◌, ◌-◌}
+use borrow.Author.Rules.{rules}
+use Rattle.paper.proofs.Loops.{RowTo, row_none, row_again, row_all}
+use Rattle.paper.proofs.sum_row.Given as goal
+
+abbrev pub invariant-loop-k : goal.invariant-loop-k
+invariant-loop-k l = RowTo l.sums l.first l.n l.row l.k
+
+abbrev pub decreases-loop-k : goal.decreases-loop-k
+decreases-loop-k l = l.n + 1 - l.k

@@ -1,0 +1,14 @@
+-- `paper::sum_rows` meets its contract: the rows passed are sums in a row.
+use Prim.Native.Nat.{◌-◌}
+use borrow.Author.Rules.{rules}
+use Rattle.paper.proofs.Loops.{RowsTo, rows_none, rows_again, rows_all}
+use Rattle.paper.proofs.sum_rows.Goals as goal
+
+pub loop-i-init : goal.loop-i-init
+loop-i-init c = search (rows_none, rules)
+
+pub loop-i-preserved : goal.loop-i-preserved
+loop-i-preserved c = search (rows_again, rules)
+
+pub returns : goal.returns
+returns c = search (rows_all, rules)

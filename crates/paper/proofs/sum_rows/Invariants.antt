@@ -1,0 +1,11 @@
+-- `paper::sum_rows` meets its contract: the rows passed are sums in a row.
+use Prim.Native.Nat.{◌-◌}
+use borrow.Author.Rules.{rules}
+use Rattle.paper.proofs.Loops.{RowsTo, rows_none, rows_again, rows_all}
+use Rattle.paper.proofs.sum_rows.Given as goal
+
+abbrev pub invariant-loop-i : goal.invariant-loop-i
+invariant-loop-i l = RowsTo l.sums l.n l.m l.i
+
+abbrev pub decreases-loop-i : goal.decreases-loop-i
+decreases-loop-i l = l.n - l.i

@@ -1,0 +1,15 @@
+-- `ring::marks::backward_words` meets its contract: the sums at the first start are computed by Horner's rule, and those at each next one are compared with them turned back.
+use mathlib.Core.Path.{refl}
+use native.Mathlib.Omega.{arith}
+use Rattle.field.specs.Field.{sum, times_x, shifted, product, power}
+use Rattle.regular.specs.Pivots.{element_in}
+use Rattle.code.specs.Word.{marks, listed, reversed}
+use Rattle.polynomial.proofs.Horner.{horner}
+use Rattle.code.proofs.Sums.{horner_sums}
+use Rattle.ring.proofs.marks.Marks.{backward_begins}
+use Rattle.ring.proofs.marks.Tables.{backs, sums_in, turned_in, marks_in}
+use Rattle.ring.proofs.marks.backward_words.Goals as goal
+
+pub returns : goal.returns
+unfolding backs sums_in turned_in element_in listed horner marks reversed power product shifted times_x sum
+returns c = marks_in 63 _ tt (λ l h e. omega arith) (backward_begins 62 _ refl (horner_sums (reversed 0 marks)))

@@ -1,0 +1,11 @@
+-- `sheet::marks_added` meets its contract: the lines passed have their marks added.
+use borrow.Author.Rules.{rules}
+use Prim.Native.Nat.{◌-◌}
+use Rattle.sheet.proofs.Loops.{AddedTo, added_start, added_again, added_all}
+use Rattle.sheet.proofs.marks_added.Given as goal
+
+abbrev pub invariant-loop-i : goal.invariant-loop-i
+invariant-loop-i l = AddedTo l.initial.s l.s l.i
+
+abbrev pub decreases-loop-i : goal.decreases-loop-i
+decreases-loop-i l = 63 - l.i

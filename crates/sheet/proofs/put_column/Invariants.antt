@@ -1,0 +1,11 @@
+-- `sheet::put_column` meets its contract: the entries passed are written, and no others.
+use borrow.Author.Rules.{rules}
+use Prim.Native.Nat.{◌-◌}
+use Rattle.sheet.proofs.Loops.{WrittenTo, written_start, written_again, written_all, written_nowhere, written_beyond}
+use Rattle.sheet.proofs.put_column.Given as goal
+
+abbrev pub invariant-loop-i : goal.invariant-loop-i
+invariant-loop-i l = WrittenTo l.column l.a l.initial.s l.s l.i
+
+abbrev pub decreases-loop-i : goal.decreases-loop-i
+decreases-loop-i l = 63 - l.i

@@ -1,3 +1,4 @@
+-- The loop of `read_full`: what it has consumed stands at the start of the room, and the rest of the room shrinks.
 use Rattle.std.proofs.Common.{◌≡◌, length, ◌-◌, ◌≤◌, take}
 use Rattle.std.specs.Io.KnownBytes.{Consumes}
 use Rattle.streams.proofs.read_full.Given as goal

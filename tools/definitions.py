@@ -6,12 +6,16 @@ from typing import NamedTuple
 
 CRATES = pathlib.Path(__file__).resolve().parents[1] / "crates"
 
-# `Rattle·NAME.specs.File.{..}`, `Rattle·NAME·specs.specs.File.{..}` for the crate itself, or `.. as A`; a type of the code is declared.Type, or
-# declared.module.Type, its cases declared.Type.the-variants
-USE = re.compile(r"^(?:ghost )?use Rattle·(\w+?)(?:·specs)?\.specs\.(declared\.(?:[a-z]\w*\.)*)?(\w+?)(?:\.the-variants)?(?:\.\{([^}]*)\}| as (\w+));?$", re.MULTILINE)
+# `Rattle.NAME.specs.File.{..}`, or `.. as A`; a type of the code is declared.Type, or declared.module.Type, its cases declared.Type.TheVariants
+USE = re.compile(r"^(?:ghost )?use Rattle\.(\w+)\.specs\.(declared\.(?:[a-z]\w*\.)*)?(\w+?)(?:\.TheVariants)?(?:\.\{([^}]*)\}| as (\w+));?$", re.MULTILINE)
+# what is std's is not counted
+OURS = re.compile(r"^(?:ghost )?use Rattle\.(?!std\.)", re.MULTILINE)
+CODE_USE = re.compile(r"^(?:pub )?use (\w+)::(?:[a-z]\w*::)*(?:\{([^}]*)\}|(\w+));", re.MULTILINE)
 SIGNATURE = re.compile(r"(?:(?:abbrev|unfoldable|pub) )*(?:(?:record|data) )?(\S+)")
 BEGINS = ("pub ", "abbrev ", "unfoldable ", "record ", "data ")
 DECLARED = re.compile(r"^(?:pub )?(?:enum|struct) (\w+) \{\n.*?^\}", re.MULTILINE | re.DOTALL)
+# an operator is declared and imported as ◌then◌, and written `p then q`
+HOLE = "◌"
 
 
 class Place(NamedTuple):
@@ -41,15 +45,15 @@ class Source:
     def __init__(self, crate, file, text):
         self.crate, self.file = crate, file
         self.used, self.renamed, self.own = {}, {}, {}
-        lines = USE.findall(text)
-        if len(lines) != text.count("use Rattle·"):
+        lines = [line for line in USE.findall(text) if line[0] != "std"]
+        if len(lines) != len(OURS.findall(text)):
             raise ValueError(f"{crate}, {file}: a `use` line of a form that is not known here")
         for used, declared, name, names, alias in lines:
             place = (used, "declared" if declared else name)
             if alias:
                 self.renamed[alias] = (place, name if declared else None)
             for one in filter(None, map(str.strip, names.split(","))):
-                self.used[one.strip("_")] = Place(*place, name if declared else one.strip("_"))
+                self.used[one.strip(HOLE)] = Place(*place, name if declared else one.strip(HOLE))
 
     def place_of(self, word):
         """The place of what a word of this file names, or None for a word of another kind."""
@@ -74,7 +78,7 @@ def specification(crate, path):
             continue
         if line.startswith(BEGINS):
             current = Definition(source)
-            source.own[SIGNATURE.match(line).group(1).strip("_")] = current
+            source.own[SIGNATURE.match(line).group(1).strip(HOLE)] = current
             is_data = line.startswith(("data ", "pub data "))
         elif is_data and (case := re.match(r"  (\S+) : ", line)):
             source.own[case.group(1)] = current
@@ -90,8 +94,9 @@ def everything():
     for path in sorted(CRATES.glob("*/src/*.rt")):
         crate, text = path.parts[-3], path.read_text()
         source = sources.setdefault((crate, "declared"), Source(crate, "declared", ""))
-        for used, name in re.findall(r"^use (\w+)::(\w+);", text, re.MULTILINE):
-            source.used[name] = Place(used, "declared", name)
+        for used, names, name in CODE_USE.findall(text):
+            for one in filter(None, map(str.strip, (names or name).split(","))):
+                source.used[one] = Place(used, "declared", one)
         for found in DECLARED.finditer(text):
             source.own[found.group(1)] = definition = Definition(source)
             definition.lines = without_comments(found.group(0), "//")
@@ -104,7 +109,9 @@ def contract(crate, function):
         text = path.read_text()
         found = re.search(rf"\bfn {function}(?:<'\w+>)?\((.*?)\n *\{{\n", text, re.DOTALL)
         if found:
-            return Source(crate, "contract", text), re.findall(r"[^\s(){};,:<>&]+", found.group(1))
+            # a clause's own name is none of a definition
+            words = re.sub(r"\b(requires|ensures)\*? \w+ \{", r"\1 {", found.group(1))
+            return Source(crate, "contract", text), re.findall(r"[^\s(){};,:<>&]+", words)
     raise LookupError(f"{crate} has no function {function}")
 
 

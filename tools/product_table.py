@@ -47,7 +47,7 @@ def source(product):
         return f"    /* {u:2} */ [{aligned([product(u, v) for v in columns], ', ', ',  ')}], // {u:2}"
 
     ruler = f"    // {CORNER}  {aligned(columns, '  ', '   ')}"
-    return f"{SOURCE_HEAD}pub const PRODUCTS: [[u8; {ELEMENTS}]; {ELEMENTS}] = [\n{with_rulers(ruler, row, chr(10))}\n];\n"
+    return f"{SOURCE_HEAD}#[rattlefmt::skip]\npub const PRODUCTS: [[u8; {ELEMENTS}]; {ELEMENTS}] = [\n{with_rulers(ruler, row, chr(10))}\n];\n"
 
 
 def part(product, columns):

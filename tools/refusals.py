@@ -101,11 +101,6 @@ def each(form, between=""):
     return text
 
 
-def in_turn(*texts):
-    """These texts, one after the other."""
-    return lambda refusals, version: "".join(text(refusals, version) for text in texts)
-
-
 def last(form):
     """The form filled in with the highest number."""
     return lambda refusals, version: form.format(refusals[-1].number)
@@ -128,23 +123,16 @@ def header_enum(refusals, version):
 PARTS = [
     ("crates/refusal/src/lib.rt", r"pub enum Refusal \{\n", "}", each("    {name},\n")),
     ("crates/refusal/src/lib.rt", r"    match r \{\n", "    }", each("        Refusal::{name} => {number},\n")),
-    ("crates/refusal/specs/Number.antt", r"the-variants\.\{", "}", each("{name}", ", ")),
-    ("crates/refusal/specs/Number.antt", r"numberOf : .*\n", None, each("-- {given}\nnumberOf {name} = {number}\n")),
-    ("crates/refusal/proofs/Numbered.antt", r"the-variants\.\{", "}", each("{name}", ", ")),
+    ("crates/refusal/specs/Number.antt", r"TheVariants\.\{", "}", each("{name}", ", ")),
+    ("crates/refusal/specs/Number.antt", r"number_of : .*\n", None, each("-- {given}\nnumber_of {name} = {number}\n")),
+    ("crates/refusal/proofs/Numbered.antt", r"TheVariants\.\{", "}", each("{name}", ", ")),
     ("crates/refusal/proofs/Numbered.antt", r"\nrefusals = ", "[]", each("{name} ∷ ")),
-    ("crates/refusal/proofs/Numbered.antt", r"most : numberOf r ≤ ", "\n", last("{}")),
+    ("crates/refusal/proofs/Numbered.antt", r"most : number_of r ≤ ", "\n", last("{}")),
     (
         "crates/refusal/proofs/Numbered.antt",
-        r"unfolding refusalOf first-with refusals\n",
+        r"unfolding refusal_of first_with_lem refusals\n",
         None,
         each("numbered {name} = record {{ named = refl; least = omega arith; most = omega arith }}\n"),
-    ),
-    (
-        "crates/refusal/proofs/number/Proof.antt",
-        r"\(tie\.spec\n",
-        None,
-        # for each case two facts: that the refusal told is this case, and that its number is the one returned
-        in_turn(each("    (λ c. search needs)  -- {name}\n"), each("    (λ c. search (of-case, needs))  -- {name}\n"), lambda refusals, version: "    )\n"),
     ),
     ("include/film.h", r"    FILM_DONE = 0,\n", "};", header_enum),
     ("bindings/rust/src/refusal.rs", r"pub enum Refusal \{\n", "    /// A number", each("    /// {sentence}\n    {name},\n")),

@@ -62,8 +62,7 @@ fn scan_told(means: Means, given: Clarity) -> FilmScan
 }
 
 // How clear a scan is.
-#[unsafe(no_mangle)]
-pub extern "C" fn film_scan_clarity(cells: &[u8], threshold: u8) -> FilmScan
+pub fn film_scan_clarity(cells: &[u8], threshold: u8) -> FilmScan
     ensures { Clearly.Clarifies cells.now threshold (scan_numbers result) (scan_given result) }
 {
     let scan = clarity::scan_clarity(cells, threshold);
@@ -97,8 +96,7 @@ fn counts_told(given: Clarities) -> FilmClarities
 }
 
 // Counts what the scans of a spool answer.
-#[unsafe(no_mangle)]
-pub extern "C" fn film_spool_clarity(cells: &[u8], threshold: u8) -> FilmClarities
+pub fn film_spool_clarity(cells: &[u8], threshold: u8) -> FilmClarities
     ensures { Clearly.CountsSpool cells.now threshold (clarities_numbers result) }
 {
     counts_told(clarity::spool_clarity(cells, threshold))

@@ -1,5 +1,6 @@
-// The library that other programs link: each function hands its call to the entry point of that name and gives back the paper's numbers; one tells the version.
+// The library that other programs link, by the crate film_c: each function hands its call to the entry point of that name and gives back the paper's numbers; one tells the version.
 #![tactic(auto)]
+
 ghost use Rattle.std.specs.Prelude.{◌≡◌, [], ◌∷◌};
 ghost use Rattle.field.specs.Promises as Field;
 ghost use Rattle.encoder.specs.Promises as Encoder;
@@ -33,8 +34,7 @@ pub mod trays;
 const VERSION: u32 = 4009000;
 
 // The version of the library that is linked.
-#[unsafe(no_mangle)]
-pub extern "C" fn film_version() -> u32
+pub fn film_version() -> u32
     ensures { result ≡ version }
 {
     VERSION // as the header's FILM_VERSION writes it
@@ -117,32 +117,28 @@ fn element(given: Element) -> FilmElement
 }
 
 // The sum of two operands.
-#[unsafe(no_mangle)]
-pub extern "C" fn film_sum(u: u8, v: u8) -> FilmElement
+pub fn film_sum(u: u8, v: u8) -> FilmElement
     ensures { Field.Sums u v (element_numbers result) }
 {
     element(field::sum(u, v))
 }
 
 // The product of two operands.
-#[unsafe(no_mangle)]
-pub extern "C" fn film_product(u: u8, v: u8) -> FilmElement
+pub fn film_product(u: u8, v: u8) -> FilmElement
     ensures { Field.Multiplies u v (element_numbers result) }
 {
     element(field::product(u, v))
 }
 
 // The quotient of two operands.
-#[unsafe(no_mangle)]
-pub extern "C" fn film_quotient(u: u8, v: u8) -> FilmElement
+pub fn film_quotient(u: u8, v: u8) -> FilmElement
     ensures { Field.Divides u v (element_numbers result) }
 {
     element(field::quotient(u, v))
 }
 
 // Encodes a line at once.
-#[unsafe(no_mangle)]
-pub extern "C" fn film_encode_line(text: &[u8], number: u16, out: &mut [u8]) -> u8
+pub fn film_encode_line(text: &[u8], number: u16, out: &mut [u8]) -> u8
     ensures { Encoder.Encodes text.now number out.old (result ∷ []) out.new }
 {
     let given = encoder::encode_line(text, number, out);
@@ -153,37 +149,28 @@ pub extern "C" fn film_encode_line(text: &[u8], number: u16, out: &mut [u8]) -> 
 }
 
 // Reads a line with no wanted number.
-#[unsafe(no_mangle)]
-pub extern "C" fn film_read_line(word: &[u8], radius: u8, out: &mut [u8]) -> PlainReading
+pub fn film_read_line(word: &[u8], radius: u8, out: &mut [u8]) -> PlainReading
     ensures { Line.Reads word.now radius Any out.old (Line.plain_numbers result) out.new }
 {
     line::plain(line::read_line(word, radius, Wanted::Any, out))
 }
 
 // Reads a line that must carry the wanted number.
-#[unsafe(no_mangle)]
-pub extern "C" fn film_read_line_wanted(
-    word: &[u8],
-    radius: u8,
-    wanted: u16,
-    out: &mut [u8],
-) -> PlainReading
+pub fn film_read_line_wanted(word: &[u8], radius: u8, wanted: u16, out: &mut [u8]) -> PlainReading
     ensures { Line.Reads word.now radius (Number wanted) out.old (Line.plain_numbers result) out.new }
 {
     line::plain(line::read_line(word, radius, Wanted::Number(wanted), out))
 }
 
 // Reads a line as 001 did, with no wanted number.
-#[unsafe(no_mangle)]
-pub extern "C" fn film_read_line_paper(word: &[u8], radius: u8, out: &mut [u8]) -> PlainReading
+pub fn film_read_line_paper(word: &[u8], radius: u8, out: &mut [u8]) -> PlainReading
     ensures { Line.Reads word.now radius Any out.old (Line.plain_numbers result) out.new }
 {
     line::plain(paper::read_line(word, radius, Wanted::Any, out))
 }
 
 // Reads a line that must carry the wanted number, as 001 did.
-#[unsafe(no_mangle)]
-pub extern "C" fn film_read_line_paper_wanted(
+pub fn film_read_line_paper_wanted(
     word: &[u8],
     radius: u8,
     wanted: u16,
@@ -195,8 +182,7 @@ pub extern "C" fn film_read_line_paper_wanted(
 }
 
 // Reads a line with blots.
-#[unsafe(no_mangle)]
-pub extern "C" fn film_read_blotted(word: &[u8], map: &[u8], out: &mut [u8]) -> PlainReading
+pub fn film_read_blotted(word: &[u8], map: &[u8], out: &mut [u8]) -> PlainReading
     ensures { Blots.ReadsBlotted word.now map.now out.old (Line.plain_numbers result) out.new }
 {
     line::plain(blots::read_blotted(word, map, out))
@@ -213,8 +199,7 @@ fn spool_number(given: SpoolAnswer) -> u8
 }
 
 // Reads a spool: up to 255 lines, each by itself.
-#[unsafe(no_mangle)]
-pub extern "C" fn film_read_spool(lines: &[u8], radius: u8, out: &mut [u8]) -> FilmSpool
+pub fn film_read_spool(lines: &[u8], radius: u8, out: &mut [u8]) -> FilmSpool
     ensures { Spool.Spools lines.now radius out.old (result.answer ∷ []) (Spool.left_of result.places out.new) }
 {
     let spooled = spool::read_spool(lines, radius, out);
@@ -228,8 +213,7 @@ pub extern "C" fn film_read_spool(lines: &[u8], radius: u8, out: &mut [u8]) -> F
 }
 
 // Chooses the better of two scans.
-#[unsafe(no_mangle)]
-pub extern "C" fn film_better_scan(first: &[u8], second: &[u8], radius: u8) -> FilmChoice
+pub fn film_better_scan(first: &[u8], second: &[u8], radius: u8) -> FilmChoice
     ensures { Scans.Chooses first.now second.now radius (choice_numbers result) }
 {
     let given = scans::choose_scan(first, second, radius);
@@ -244,8 +228,7 @@ pub extern "C" fn film_better_scan(first: &[u8], second: &[u8], radius: u8) -> F
 }
 
 // Lists a ring.
-#[unsafe(no_mangle)]
-pub extern "C" fn film_list_ring(ring: &[u8], radius: u8, out: &mut [u8]) -> FilmList
+pub fn film_list_ring(ring: &[u8], radius: u8, out: &mut [u8]) -> FilmList
     ensures { Ring.ListsRing ring.now radius out.old (list_numbers result) out.new }
 {
     let given = ring::list_ring(ring, radius, out);
@@ -259,8 +242,7 @@ pub extern "C" fn film_list_ring(ring: &[u8], radius: u8, out: &mut [u8]) -> Fil
 }
 
 // Reads a ring.
-#[unsafe(no_mangle)]
-pub extern "C" fn film_read_ring(ring: &[u8], radius: u8, out: &mut [u8]) -> FilmRing
+pub fn film_read_ring(ring: &[u8], radius: u8, out: &mut [u8]) -> FilmRing
     ensures { Ring.ReadsRing ring.now radius out.old (ring_numbers result) out.new }
 {
     let given = ring::read_ring(ring, radius, out);
@@ -304,16 +286,14 @@ fn panel_shown(given: PanelText) -> FilmPanel
 }
 
 // Writes a text for a panel.
-#[unsafe(no_mangle)]
-pub extern "C" fn film_panel_text(text: &[u8], out: &mut [u8]) -> FilmPanel
+pub fn film_panel_text(text: &[u8], out: &mut [u8]) -> FilmPanel
     ensures { Panel.Panels text.now out.old (panel_numbers result) out.new }
 {
     panel_shown(panel::panel_text(text, out))
 }
 
 // Writes the text of a ring for a panel.
-#[unsafe(no_mangle)]
-pub extern "C" fn film_panel_ring(ring: &[u8], radius: u8, out: &mut [u8]) -> FilmPanel
+pub fn film_panel_ring(ring: &[u8], radius: u8, out: &mut [u8]) -> FilmPanel
     ensures { Panel.PanelsRing ring.now radius out.old (panel_numbers result) out.new }
 {
     panel_shown(panel::panel_ring(ring, radius, out))
@@ -346,32 +326,28 @@ fn block_read(given: BlockReading) -> FilmBlock
 }
 
 // Encodes a block.
-#[unsafe(no_mangle)]
-pub extern "C" fn film_encode_block(given: &[u8], out: &mut [u8]) -> u8
+pub fn film_encode_block(given: &[u8], out: &mut [u8]) -> u8
     ensures { Block.Encodes given.now out.old (result ∷ []) out.new }
 {
     block_written(block::encode_block(given, out))
 }
 
 // Reads a block.
-#[unsafe(no_mangle)]
-pub extern "C" fn film_read_block(rows: &[u8], out: &mut [u8]) -> FilmBlock
+pub fn film_read_block(rows: &[u8], out: &mut [u8]) -> FilmBlock
     ensures { Block.Reads rows.now out.old (block_numbers result) out.new }
 {
     block_read(block::read_block(rows, out))
 }
 
 // Encodes a block that outlasts a smudge.
-#[unsafe(no_mangle)]
-pub extern "C" fn film_encode_smudge(given: &[u8], out: &mut [u8]) -> u8
+pub fn film_encode_smudge(given: &[u8], out: &mut [u8]) -> u8
     ensures { Smudge.Encodes given.now out.old (result ∷ []) out.new }
 {
     block_written(smudge::encode_smudge(given, out))
 }
 
 // Reads a block that may be smudged.
-#[unsafe(no_mangle)]
-pub extern "C" fn film_read_smudge(rows: &[u8], out: &mut [u8]) -> FilmBlock
+pub fn film_read_smudge(rows: &[u8], out: &mut [u8]) -> FilmBlock
     ensures { Smudge.Reads rows.now out.old (block_numbers result) out.new }
 {
     block_read(smudge::read_smudge(rows, out))

@@ -40,8 +40,7 @@ fn step_number(given: StepAnswer) -> u8
 }
 
 // The register takes one more character.
-#[unsafe(no_mangle)]
-pub extern "C" fn film_step(register: FilmRegister, c: u8) -> FilmStepped
+pub fn film_step(register: FilmRegister, c: u8) -> FilmStepped
     ensures { Encoder.Steps (register_of register) c (result.answer ∷ []) (register_of result.register) }
 {
     let held = register.held;
@@ -74,8 +73,7 @@ fn check_number(given: CheckAnswer) -> u8
 }
 
 // The checks of a register that has taken 52 characters.
-#[unsafe(no_mangle)]
-pub extern "C" fn film_checks(register: FilmRegister) -> FilmChecked
+pub fn film_checks(register: FilmRegister) -> FilmChecked
     ensures { Encoder.Checks (register_of register) (check_numbers result) }
 {
     let held = register.held;

@@ -17,8 +17,7 @@ pub struct FilmSheet {
 }
 
 // Encodes a sheet.
-#[unsafe(no_mangle)]
-pub extern "C" fn film_encode_sheet(texts: &[u8], numbers: &[u16], out: &mut [u8]) -> u8
+pub fn film_encode_sheet(texts: &[u8], numbers: &[u16], out: &mut [u8]) -> u8
     ensures { Encoder.EncodesSheet texts.now numbers.now out.old (result ∷ []) out.new }
 {
     let given = sheet_encoder::encode_sheet(texts, numbers, out);
@@ -29,8 +28,7 @@ pub extern "C" fn film_encode_sheet(texts: &[u8], numbers: &[u16], out: &mut [u8
 }
 
 // Reads a sheet in rounds.
-#[unsafe(no_mangle)]
-pub extern "C" fn film_read_sheet(sheet: &[u8], out: &mut [u8]) -> FilmSheet
+pub fn film_read_sheet(sheet: &[u8], out: &mut [u8]) -> FilmSheet
     ensures { Reader.ReadsSheet sheet.now out.old (sheet_numbers result) out.new }
 {
     let given = sheet_reader::read_sheet(sheet, out);

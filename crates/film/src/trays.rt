@@ -24,37 +24,28 @@ fn edit_number(given: TrayEdit) -> u8
 }
 
 // Adds a line.
-#[unsafe(no_mangle)]
-pub extern "C" fn film_tray_add(tray: &mut [u8; TRAY], line: &[u8]) -> u8
+pub fn film_tray_add(tray: &mut [u8; TRAY], line: &[u8]) -> u8
     ensures { OpenTray.Adds tray.old line.now (result ∷ []) tray.new }
 {
     edit_number(open_tray::add_line(tray, line))
 }
 
 // Replaces a character.
-#[unsafe(no_mangle)]
-pub extern "C" fn film_tray_replace(
-    tray: &mut [u8; TRAY],
-    line: u8,
-    address: u8,
-    character: u8,
-) -> u8
+pub fn film_tray_replace(tray: &mut [u8; TRAY], line: u8, address: u8, character: u8) -> u8
     ensures { OpenTray.Replaces tray.old line address character (result ∷ []) tray.new }
 {
     edit_number(open_tray::replace_character(tray, line, address, character))
 }
 
 // Drops the last line.
-#[unsafe(no_mangle)]
-pub extern "C" fn film_tray_drop(tray: &mut [u8; TRAY]) -> u8
+pub fn film_tray_drop(tray: &mut [u8; TRAY]) -> u8
     ensures { OpenTray.Drops tray.old (result ∷ []) tray.new }
 {
     edit_number(open_tray::drop_line(tray))
 }
 
 // Asks the count.
-#[unsafe(no_mangle)]
-pub extern "C" fn film_tray_count(tray: &[u8; TRAY]) -> FilmCount
+pub fn film_tray_count(tray: &[u8; TRAY]) -> FilmCount
     ensures { OpenTray.Asks tray.now (count_numbers result) }
 {
     let given = open_tray::ask_count(tray);

@@ -1,5 +1,6 @@
 // Reading a sheet: rounds of lines and columns, until one ends as it began or eight are done.
 #![tactic(auto)]
+
 ghost use Rattle.std.specs.Prelude.{◌≡◌, length};
 ghost use Rattle.refusal.specs.Promise.{Tells};
 ghost use Rattle.code.specs.Word.{Clean};

@@ -18,10 +18,12 @@ pub returns-then-byte_at-ge-ROOMS : goal.returns-then-byte_at-ge-ROOMS
 returns-then-byte_at-ge-ROOMS c = add_refused _ _ 3 (search (no_room, verdicts, rules) depth 9)
 
 pub put_line-requires : goal.put_line-requires
-put_line-requires c =     let a = c.args in
+put_line-requires c =
+    let a = c.args in
     let t = a.tray.now in
     let h = c.byte_at in
-    may_put t a.line.now (told_yes c.fits2.ensures c.if-not-fits.false-raw) (some_room t h.result h.ensures (omega (arith, c.if-byte_at-ge-ROOMS.false))) (search rules)
+    let both = may_put t a.line.now (told_yes c.fits.ensures c.if-not-fits.false-raw) (some_room t h.result h.ensures (omega (arith, c.if-byte_at-ge-ROOMS.false))) (search rules) in
+    record { fit = both.0; tray_bound = both.1 }
 
 pub returns : goal.returns
 returns c =     let t = c.args.tray.now in

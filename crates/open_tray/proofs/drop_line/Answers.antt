@@ -15,18 +15,22 @@ pub overflow_sub-last : goal.overflow_sub-last
 overflow_sub-last c = pos_of_not_zero _ c.if-held-eq0.false
 
 pub sound-requires : goal.sound-requires
-sound-requires c =     let t = c.args.tray.now in
+sound-requires c =
+    let t = c.args.tray.now in
     let h = c.byte_at-held in
-    may_look_last t h.result h.ensures (told_yes c.fits2.ensures c.if-not-fits.false-raw) (one_left t h.result h.ensures c.if-held-eq0.false)
+    let both = may_look_last t h.result h.ensures (told_yes c.fits.ensures c.if-not-fits.false-raw) (one_left t h.result h.ensures c.if-held-eq0.false) in
+    record { fit = both.0; i_bound = both.1 }
 
 pub returns-then-not-sound : goal.returns-then-not-sound
 returns-then-not-sound c = drop_refused _ 2 (search (one_left, last_unsound, verdicts, rules) depth 9)
 
 pub lose_line-requires : goal.lose_line-requires
-lose_line-requires c =     let t = c.args.tray.now in
+lose_line-requires c =
+    let t = c.args.tray.now in
     let h = c.byte_at-held in
-    may_drop t h.result h.ensures (told_yes c.fits2.ensures c.if-not-fits.false-raw) (one_left t h.result h.ensures c.if-held-eq0.false)
-    (told_yes c.sound.ensures c.if-not-sound.false-raw)
+    let both = may_drop t h.result h.ensures (told_yes c.fits.ensures c.if-not-fits.false-raw) (one_left t h.result h.ensures c.if-held-eq0.false)
+    (told_yes c.sound.ensures c.if-not-sound.false-raw) in
+    record { fit = both.0; tray_nonzero = both.1 }
 
 pub returns : goal.returns
 returns c = line_dropped _ _ (search (one_left, last_sound, verdicts, rules) depth 9) (search rules)

@@ -4,7 +4,12 @@ use Rattle.open_tray.proofs.Ways.{enough, small_after, may_replace_in, replaced_
 use Rattle.open_tray.proofs.put_character.Goals as goal
 
 pub replace-requires : goal.replace-requires
-replace-requires c =     may_replace_in {t = c.args.tray.now} {i = c.args.i} c.requires.0 c.requires.1.0.0 c.requires.1.0.1 c.requires.1.1.0 c.requires.1.1.1
+replace-requires c =
+    let both =
+        may_replace_in {t = c.args.tray.now} {i = c.args.i} c.requires.fit c.requires.i_bound.0 c.requires.i_bound.1 c.requires.address_bound.0
+        c.requires.address_bound.1
+    in
+    record { room_len = both.0; address_bound = both.1 }
 
 pub overflow_sub-tray : goal.overflow_sub-tray
 overflow_sub-tray c = search (enough, rules)

@@ -10,7 +10,7 @@ pub slice_bounds-add_shares-start : goal.slice_bounds-add_shares-start
 slice_bounds-add_shares-start c = search (set_reaches, rules)
 
 pub add_shares-requires : goal.add_shares-requires
-add_shares-requires c = let r = c.args.room.now in record { sums_len = sums_after_lem r c.args.address c.args.character c.requires.0.0; address_bound = ((c.requires.1.0, change_low r c.args.address c.args.character c.requires.0.0 c.requires.0.1 c.requires.1.1), ) }
+add_shares-requires c = let r = c.args.room.now in record { sums_len = sums_after_lem r c.args.address c.args.character c.requires.room_len.0; address_bound = (c.requires.address_bound.0, change_low r c.args.address c.args.character c.requires.room_len.0 c.requires.room_len.1 c.requires.address_bound.1) }
 
 pub shape_of-room : goal.shape_of-room
 shape_of-room c = search (replaced_same_long, rules)

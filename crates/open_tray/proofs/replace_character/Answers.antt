@@ -17,20 +17,24 @@ pub returns-then-character-gt-HIGHEST : goal.returns-then-character-gt-HIGHEST
 returns-then-character-gt-HIGHEST c = replace_refused _ _ _ _ 3 (search (some_line, verdicts, rules) depth 9)
 
 pub sound-requires : goal.sound-requires
-sound-requires c =     let a = c.args in
+sound-requires c =
+    let a = c.args in
     let h = c.byte_at in
-    may_look {t = a.tray.now} {i = a.line} (told_yes c.fits2.ensures c.if-not-fits.false-raw)
-    (some_line a.tray.now h.result a.line h.ensures c.if-line-byte_at.false)
+    let both = may_look {t = a.tray.now} {i = a.line} (told_yes c.fits.ensures c.if-not-fits.false-raw)
+    (some_line a.tray.now h.result a.line h.ensures c.if-line-byte_at.false) in
+    record { fit = both.0; i_bound = both.1 }
 
 pub returns-then-not-sound : goal.returns-then-not-sound
 returns-then-not-sound c = replace_refused _ _ _ _ 4 (search (some_line, verdicts, rules) depth 9)
 
 pub put_character-requires : goal.put_character-requires
-put_character-requires c =     let a = c.args in
+put_character-requires c =
+    let a = c.args in
     let h = c.byte_at in
-    may_replace {t = a.tray.now} {i = a.line} (told_yes c.fits2.ensures c.if-not-fits.false-raw)
+    let both = may_replace {t = a.tray.now} {i = a.line} (told_yes c.fits.ensures c.if-not-fits.false-raw)
     (some_line a.tray.now h.result a.line h.ensures c.if-line-byte_at.false) (told_yes c.sound.ensures c.if-not-sound.false-raw)
-    c.if-address-gt-LAST_ADDRESS.false c.if-character-gt-HIGHEST.false
+    c.if-address-gt-LAST_ADDRESS.false c.if-character-gt-HIGHEST.false in
+    record { fit = both.0; i_bound = both.1.0; address_bound = both.1.1 }
 
 pub returns : goal.returns
 returns c = character_replaced _ _ _ _ _ (search (some_line, verdicts, rules) depth 9) (search rules)

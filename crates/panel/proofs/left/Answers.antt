@@ -1,0 +1,8 @@
+-- `panel::left` meets its contract.
+use mathlib.Core.Path.{sym, ap}
+use borrow.Author.Rules.{rules}
+use Rattle.panel.specs.Inside.{leaving}
+use Rattle.panel.proofs.left.Goals as goal
+
+pub returns-in-Refused : goal.returns-in-Refused
+returns-in-Refused c = sym (ap leaving c.in-Refused.is)

@@ -1,0 +1,12 @@
+-- `sheet_reader::same` meets its contract: the entries passed are the same, and one that is not tells.
+use borrow.Author.Rules.{rules}
+use Prim.Native.Nat.{◌-◌}
+use lib.ListN.{length}
+use Rattle.sheet_reader.proofs.Tests.{SameTo, same_start, same_again, same_not, same_all}
+use Rattle.sheet_reader.proofs.same.Given as goal
+
+abbrev pub invariant-loop-k : goal.invariant-loop-k
+invariant-loop-k l = SameTo l.s l.t l.k
+
+abbrev pub decreases-loop-k : goal.decreases-loop-k
+decreases-loop-k l = length l.s - l.k

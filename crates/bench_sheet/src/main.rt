@@ -1,19 +1,29 @@
 // Runs the rows of the bench sheet in its order, and prints for each what was answered; the starred rows are proved besides, in proofs/Sheet.antt.
 #![tactic(auto)]
+
+ghost use Rattle.std.specs.Prelude.{◌++◌, OnOk, codes, decimal};
+ghost use Rattle.std.specs.Io.KnownBytes.{Appends};
+
 use block::{BlockEncoding, BlockReading};
 use encoder::LineEncoding;
 use field::Element;
-use libc::STDOUT_FILENO;
 use line::{LineReading, Wanted};
 use ring::RingListing;
+use std::io;
+use std::io::{BufWriter, Write};
 
-fn print(text: &[u8]) {
-    io::write_all(STDOUT_FILENO, text);
+fn print<W: Write>(out: &mut W, text: &[u8]) -> io::Result<()>
+    ensures { OnOk result (Appends (W.contents out.old) (W.contents out.new) text.now) }
+{
+    out.write_all(text)
 }
 
-fn print_number(n: u64) {
-    print(b" ");
-    io::print_decimal(STDOUT_FILENO, n);
+// Prints a space and a number.
+fn print_number<W: Write>(out: &mut W, n: u64) -> io::Result<()>
+    ensures { OnOk result (Appends (W.contents out.old) (W.contents out.new) (codes " " ++ decimal n)) }
+{
+    print(out, b" ")?;
+    streams::print_decimal(out, n)
 }
 
 // A byte as a number, with no cast to be proved.
@@ -21,29 +31,27 @@ fn wide(x: u8) -> u64 {
     x as u64
 }
 
-fn print_bytes(bytes: &[u8]) {
-    let mut i: usize = 0;
-    while i < bytes.len() {
-        print_number(wide(bytes[i]));
-        i += 1;
+fn print_bytes(out: &mut impl Write, bytes: &[u8]) -> io::Result<()> {
+    for x in bytes {
+        print_number(out, wide(*x))?;
     }
-    print(b"\n");
+    print(out, b"\n")
 }
 
-fn print_refusal(r: refusal::Refusal) {
-    print(b" refused");
-    print_number(wide(refusal::number(r)));
-    print(b"\n");
+fn print_refusal(out: &mut impl Write, r: refusal::Refusal) -> io::Result<()> {
+    print(out, b" refused")?;
+    print_number(out, wide(refusal::number(r)))?;
+    print(out, b"\n")
 }
 
-fn print_element(title: &[u8], element: Element) {
-    print(title);
+fn print_element(out: &mut impl Write, title: &[u8], element: Element) -> io::Result<()> {
+    print(out, title)?;
     match element {
         Element::Value(v) => {
-            print_number(wide(v));
-            print(b"\n");
+            print_number(out, wide(v))?;
+            print(out, b"\n")
         }
-        Element::Refused(r) => print_refusal(r),
+        Element::Refused(r) => print_refusal(out, r),
     }
 }
 
@@ -81,18 +89,24 @@ fn six_wrong() -> [u8; 63] {
     z
 }
 
-fn print_is_line(title: &[u8], word: [u8; 63]) {
-    print(title);
+fn print_is_line(out: &mut impl Write, title: &[u8], word: [u8; 63]) -> io::Result<()> {
+    print(out, title)?;
     if code::is_line(&word) {
-        print(b" a line\n");
+        print(out, b" a line\n")
     } else {
-        print(b" no line\n");
+        print(out, b" no line\n")
     }
 }
 
 // The answer, the number, the distance and the output.
-fn print_line(title: &[u8], word: [u8; 63], radius: u8, wanted: Wanted) {
-    print(title);
+fn print_line(
+    out: &mut impl Write,
+    title: &[u8],
+    word: [u8; 63],
+    radius: u8,
+    wanted: Wanted,
+) -> io::Result<()> {
+    print(out, title)?;
     let mut output = [0u8; 63];
     let reading = line::read_line(&word, radius, wanted, &mut output);
     match reading {
@@ -101,14 +115,14 @@ fn print_line(title: &[u8], word: [u8; 63], radius: u8, wanted: Wanted) {
             distance,
             ..
         } => {
-            print(b" number");
-            print_number(number as u64);
-            print(b" distance");
-            print_number(wide(distance));
-            print(b":");
-            print_bytes(&output);
+            print(out, b" number")?;
+            print_number(out, number as u64)?;
+            print(out, b" distance")?;
+            print_number(out, wide(distance))?;
+            print(out, b":")?;
+            print_bytes(out, &output)
         }
-        LineReading::Refused(r) => print_refusal(r),
+        LineReading::Refused(r) => print_refusal(out, r),
     }
 }
 
@@ -129,108 +143,151 @@ fn text_65() -> [u8; 50] {
 }
 
 // The line that is written.
-fn print_encoding(title: &[u8], number: u16) {
-    print(title);
+fn print_encoding(out: &mut impl Write, title: &[u8], number: u16) -> io::Result<()> {
+    print(out, title)?;
     let text = text_65();
     let mut output = [0u8; 63];
     let encoding = encoder::encode_line(&text, number, &mut output);
     match encoding {
-        LineEncoding::Written => print_bytes(&output),
-        LineEncoding::Refused(r) => print_refusal(r),
+        LineEncoding::Written => print_bytes(out, &output),
+        LineEncoding::Refused(r) => print_refusal(out, r),
     }
 }
 
 // The starts listed: the output was lent with 255 in it, which is no start.
-fn print_ring(title: &[u8], radius: u8) {
-    print(title);
+fn print_ring(out: &mut impl Write, title: &[u8], radius: u8) -> io::Result<()> {
+    print(out, title)?;
     let ring = zero_line();
     let mut output = [255u8; 126];
     let listing = ring::list_ring(&ring, radius, &mut output);
     match listing {
         RingListing::Listed { count } => {
-            print(b" count");
-            print_number(wide(count));
-            print(b":");
-            print_bytes(&output);
+            print(out, b" count")?;
+            print_number(out, wide(count))?;
+            print(out, b":")?;
+            print_bytes(out, &output)
         }
-        RingListing::Refused(r) => print_refusal(r),
+        RingListing::Refused(r) => print_refusal(out, r),
     }
 }
 
-fn print_block(title: &[u8], rows: &[u8], output: &mut [u8]) {
-    print(title);
+fn print_block(
+    out: &mut impl Write,
+    title: &[u8],
+    rows: &[u8],
+    output: &mut [u8],
+) -> io::Result<()> {
+    print(out, title)?;
     let reading = block::read_block(rows, output);
-    print_reading(reading, output);
+    print_reading(out, reading, output)
 }
 
-fn print_reading(reading: BlockReading, output: &[u8]) {
+fn print_reading(out: &mut impl Write, reading: BlockReading, output: &[u8]) -> io::Result<()> {
     match reading {
         BlockReading::Block { distance } => {
-            print(b" distance");
-            print_number(wide(distance));
-            print(b":");
-            print_bytes(output);
+            print(out, b" distance")?;
+            print_number(out, wide(distance))?;
+            print(out, b":")?;
+            print_bytes(out, output)
         }
-        BlockReading::Refused(r) => print_refusal(r),
+        BlockReading::Refused(r) => print_refusal(out, r),
     }
 }
 
-fn print_field_rows() {
-    print_element(b"32 times 2:", field::product(32, 2));
-    print_element(b"33 times 2:", field::product(33, 2));
-    print_element(b"quotient of 5 by 0:", field::quotient(5, 0));
+fn print_field_rows(out: &mut impl Write) -> io::Result<()> {
+    print_element(out, b"32 times 2:", field::product(32, 2))?;
+    print_element(out, b"33 times 2:", field::product(33, 2))?;
+    print_element(out, b"quotient of 5 by 0:", field::quotient(5, 0))
 }
 
-fn print_line_rows() {
-    print_is_line(b"Z:", zero_line());
-    print_is_line(b"63 zeros:", [0u8; 63]);
-    print_line(b"63 zeros, radius 3:", [0u8; 63], 3, Wanted::Any);
+fn print_line_rows(out: &mut impl Write) -> io::Result<()> {
+    print_is_line(out, b"Z:", zero_line())?;
+    print_is_line(out, b"63 zeros:", [0u8; 63])?;
+    print_line(out, b"63 zeros, radius 3:", [0u8; 63], 3, Wanted::Any)?;
     print_encoding(
+        out,
         b"text 1 at 5, 6, 14, 15, 23, 24, 32, 33, 41, 42, number 65:",
         65,
-    );
-    print_line(b"Z with 5 at 60, radius 1:", five_at_60(), 1, Wanted::Any);
+    )?;
+    print_line(
+        out,
+        b"Z with 5 at 60, radius 1:",
+        five_at_60(),
+        1,
+        Wanted::Any,
+    )
 }
 
-fn print_starred_blocks() {
-    print_block(b"rows 3, 252:", b"\x03\xfc", &mut [0u8; 2]);
-    print_block(b"rows 3, 253:", b"\x03\xfd", &mut [0u8; 2]);
-    print_block(b"rows 3, 3:", b"\x03\x03", &mut [0u8; 2]);
-    print_block(b"rows 3, 0:", b"\x03\x00", &mut [0u8; 2]);
+fn print_starred_blocks(out: &mut impl Write) -> io::Result<()> {
+    print_block(out, b"rows 3, 252:", b"\x03\xfc", &mut [0u8; 2])?;
+    print_block(out, b"rows 3, 253:", b"\x03\xfd", &mut [0u8; 2])?;
+    print_block(out, b"rows 3, 3:", b"\x03\x03", &mut [0u8; 2])?;
+    print_block(out, b"rows 3, 0:", b"\x03\x00", &mut [0u8; 2])
 }
 
 // A block that outlasts a smudge, and the same with the four cells of a window turned.
-fn print_smudges() {
-    print(b"data 1 to 7 against smudges:");
+fn print_smudges(out: &mut impl Write) -> io::Result<()> {
+    print(out, b"data 1 to 7 against smudges:")?;
     let mut output = [0u8; 8];
     let encoding = smudge::encode_smudge(b"\x01\x02\x03\x04\x05\x06\x07", &mut output);
     match encoding {
-        BlockEncoding::Written => print_bytes(&output),
-        BlockEncoding::Refused(r) => print_refusal(r),
-    }
-    print(b"with the window at row 4, column 3 turned:");
+        BlockEncoding::Written => print_bytes(out, &output),
+        BlockEncoding::Refused(r) => print_refusal(out, r),
+    }?;
+    print(out, b"with the window at row 4, column 3 turned:")?;
     let reading = smudge::read_smudge(b"\x83\xaa\x81\x1a\x1f\x0a\x05\x5d", &mut output);
-    print_reading(reading, &output);
+    print_reading(out, reading, &output)
 }
 
-fn print_damaged_lines() {
-    print_line(b"Z with 5 wrong, radius 5:", five_wrong(), 5, Wanted::Any);
-    print_line(b"Z with 5 wrong, radius 4:", five_wrong(), 4, Wanted::Any);
-    print_line(b"Z with 6 wrong, radius 5:", six_wrong(), 5, Wanted::Any);
+fn print_damaged_lines(out: &mut impl Write) -> io::Result<()> {
     print_line(
+        out,
+        b"Z with 5 wrong, radius 5:",
+        five_wrong(),
+        5,
+        Wanted::Any,
+    )?;
+    print_line(
+        out,
+        b"Z with 5 wrong, radius 4:",
+        five_wrong(),
+        4,
+        Wanted::Any,
+    )?;
+    print_line(
+        out,
+        b"Z with 6 wrong, radius 5:",
+        six_wrong(),
+        5,
+        Wanted::Any,
+    )?;
+    print_line(
+        out,
         b"Z with 5 at 60, radius 1, wanted 1:",
         five_at_60(),
         1,
         Wanted::Number(1),
-    );
+    )
 }
 
-fn print_bounds() {
-    print_line(b"Z, radius 6:", zero_line(), 6, Wanted::Any);
-    print_encoding(b"number 4095:", 4095);
-    print_encoding(b"number 4096:", 4096);
-    print_line(b"Z, wanted 4095:", zero_line(), 0, Wanted::Number(4095));
-    print_line(b"Z, wanted 4096:", zero_line(), 0, Wanted::Number(4096));
+fn print_bounds(out: &mut impl Write) -> io::Result<()> {
+    print_line(out, b"Z, radius 6:", zero_line(), 6, Wanted::Any)?;
+    print_encoding(out, b"number 4095:", 4095)?;
+    print_encoding(out, b"number 4096:", 4096)?;
+    print_line(
+        out,
+        b"Z, wanted 4095:",
+        zero_line(),
+        0,
+        Wanted::Number(4095),
+    )?;
+    print_line(
+        out,
+        b"Z, wanted 4096:",
+        zero_line(),
+        0,
+        Wanted::Number(4096),
+    )
 }
 
 // 64 rows of no data: zeros, and the column checks.
@@ -247,22 +304,31 @@ fn rows_65() -> [u8; 65] {
     rows
 }
 
-fn print_row_counts() {
-    print_block(b"1 row:", b"\xff", &mut [0u8; 1]);
-    print_block(b"2 rows:", b"\x00\xff", &mut [0u8; 2]);
-    print_block(b"64 rows:", &rows_64(), &mut [0u8; 64]);
-    print_block(b"65 rows:", &rows_65(), &mut [0u8; 65]);
+fn print_row_counts(out: &mut impl Write) -> io::Result<()> {
+    print_block(out, b"1 row:", b"\xff", &mut [0u8; 1])?;
+    print_block(out, b"2 rows:", b"\x00\xff", &mut [0u8; 2])?;
+    print_block(out, b"64 rows:", &rows_64(), &mut [0u8; 64])?;
+    print_block(out, b"65 rows:", &rows_65(), &mut [0u8; 65])
 }
 
-fn main() {
-    print_field_rows();
-    print_line_rows();
-    print_starred_blocks();
-    print_smudges();
-    print_damaged_lines();
-    print_bounds();
-    print_ring(b"ring Z, radius 3:", 3);
-    print_ring(b"ring Z, radius 4:", 4);
-    print_ring(b"ring Z, radius 5:", 5);
-    print_row_counts();
+// Prints every row, in the sheet's order.
+fn print_sheet(out: &mut impl Write) -> io::Result<()> {
+    print_field_rows(out)?;
+    print_line_rows(out)?;
+    print_starred_blocks(out)?;
+    print_smudges(out)?;
+    print_damaged_lines(out)?;
+    print_bounds(out)?;
+    print_ring(out, b"ring Z, radius 3:", 3)?;
+    print_ring(out, b"ring Z, radius 4:", 4)?;
+    print_ring(out, b"ring Z, radius 5:", 5)?;
+    print_row_counts(out)
+}
+
+fn main(rt: HostRuntime) -> io::Result<()> {
+    let mut out = BufWriter::new(rt.alloc(), io::writer(&rt))?;
+    let printed = print_sheet(&mut out);
+    // what stands before a row that could not be printed is written too
+    let written = out.flush();
+    printed.and(written)
 }

@@ -2,7 +2,8 @@
 ghost use Rattle.std.specs.Prelude.{◌≡◌, ◌≤◌, length};
 
 use super::{LONGEST, byte_at, print, print_numbers, show};
-use libc::STDOUT_FILENO;
+use std::io;
+use std::io::Write;
 
 // Room for every spool: twice the longest input.
 const ROOM: usize = 131070;
@@ -22,24 +23,25 @@ fn bits(x: f64) -> u64 {
 }
 
 // Prints the bits of a double, the highest first.
-fn print_double(x: f64) {
-    io::print_hex(STDOUT_FILENO, bits(x), DIGITS);
+fn print_double(out: &mut impl Write, x: f64) -> io::Result<()> {
+    streams::print_hex(out, bits(x), DIGITS)
 }
 
-pub fn scan_clarity(cells: &[u8], threshold: u8) {
+pub fn scan_clarity(out: &mut impl Write, cells: &[u8], threshold: u8) -> io::Result<()> {
     let given = film::brightness::film_scan_clarity(cells, threshold);
-    print(b"scan_clarity");
-    print_numbers(&[given.answer as u16, given.kind as u16]);
-    print(b" [");
-    print_double(given.ratio);
-    print_double(given.dark);
-    print_double(given.bright);
-    print(b"]\n");
+    print(out, b"scan_clarity")?;
+    print_numbers(out, &[given.answer as u16, given.kind as u16])?;
+    print(out, b" [")?;
+    print_double(out, given.ratio)?;
+    print_double(out, given.dark)?;
+    print_double(out, given.bright)?;
+    print(out, b"]\n")
 }
 
-fn count_scans(spool: &[u8], threshold: u8) {
+fn count_scans(out: &mut impl Write, spool: &[u8], threshold: u8) -> io::Result<()> {
     let given = film::brightness::film_spool_clarity(spool, threshold);
     show(
+        out,
         b"spool_clarity",
         &[
             given.answer as u16,
@@ -48,7 +50,7 @@ fn count_scans(spool: &[u8], threshold: u8) {
             given.refusals as u16,
         ],
         &spool[..0],
-    );
+    )
 }
 
 // A cell of a spool that is an input twice, and 0 past its end.
@@ -88,8 +90,13 @@ fn length_of(input: &[u8], again: usize) -> usize
 }
 
 // Counts the scans of such a spool.
-pub fn spool_clarity(input: &[u8], again: usize, threshold: u8) {
+pub fn spool_clarity(
+    out: &mut impl Write,
+    input: &[u8],
+    again: usize,
+    threshold: u8,
+) -> io::Result<()> {
     let cells = twice(input);
     let length = length_of(input, again);
-    count_scans(&cells[..length], threshold);
+    count_scans(out, &cells[..length], threshold)
 }

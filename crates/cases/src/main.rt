@@ -28,11 +28,15 @@
 // A new call is a constant, a function that hands it over and shows its answer, and an arm of `hand_over`. The second program has the same
 // constant, and makes the cases (second/cases.rs).
 #![tactic(auto)]
-ghost use Rattle.std.specs.Prelude.{◌≡◌, ◌≤◌, length};
+
+ghost use Rattle.std.specs.Prelude.{◌≡◌, ◌≤◌, ◌++◌, length, OnOk, codes, decimal};
+ghost use Rattle.std.specs.Io.KnownBytes.{Appends};
+ghost use Rattle.streams.specs.Hex.{hex};
 
 use film::FilmElement;
 use film::recorder::FilmRegister;
-use libc::{STDIN_FILENO, STDOUT_FILENO};
+use std::io;
+use std::io::{BufReader, BufWriter, Read, Write};
 
 mod blocks;
 mod clarity;
@@ -104,51 +108,54 @@ const LONGEST: usize = 65535;
 // The most cases of a run, so that it ends whatever the input is.
 const MOST_CASES: u32 = 1000000;
 
-fn print(text: &[u8]) {
-    io::write_all(STDOUT_FILENO, text);
+fn print<W: Write>(out: &mut W, text: &[u8]) -> io::Result<()>
+    ensures { OnOk result (Appends (W.contents out.old) (W.contents out.new) text.now) }
+{
+    out.write_all(text)
 }
 
 // Prints a byte as two hexadecimal digits.
-fn print_byte(x: u8) {
-    io::print_hex(STDOUT_FILENO, x as u64, 2);
+fn print_byte<W: Write>(out: &mut W, x: u8) -> io::Result<()>
+    ensures { OnOk result (Appends (W.contents out.old) (W.contents out.new) (hex 2 x)) }
+{
+    streams::print_hex(out, x as u64, 2)
 }
 
 // Prints a space and a number.
-fn print_number(n: u16) {
-    print(b" ");
-    io::print_decimal(STDOUT_FILENO, n as u64);
+fn print_number<W: Write>(out: &mut W, n: u16) -> io::Result<()>
+    ensures { OnOk result (Appends (W.contents out.old) (W.contents out.new) (codes " " ++ decimal n)) }
+{
+    print(out, b" ")?;
+    streams::print_decimal(out, n as u64)
 }
 
 // Prints the numbers of an answer.
-fn print_numbers(numbers: &[u16]) {
-    let mut i: usize = 0;
-    while i < numbers.len() {
-        print_number(numbers[i]);
-        i += 1;
+fn print_numbers(out: &mut impl Write, numbers: &[u16]) -> io::Result<()> {
+    for x in numbers {
+        print_number(out, *x)?;
     }
+    Ok(())
 }
 
 // Prints a space and the bytes, in brackets, and ends the line.
-fn print_bytes(bytes: &[u8]) {
-    print(b" [");
-    let mut i: usize = 0;
-    while i < bytes.len() {
-        print_byte(bytes[i]);
-        i += 1;
+fn print_bytes(out: &mut impl Write, bytes: &[u8]) -> io::Result<()> {
+    print(out, b" [")?;
+    for x in bytes {
+        print_byte(out, *x)?;
     }
-    print(b"]\n");
+    print(out, b"]\n")
 }
 
 // Prints a call's name, the numbers of its answer and the bytes that go with them.
-fn show(name: &[u8], numbers: &[u16], bytes: &[u8]) {
-    print(name);
-    print_numbers(numbers);
-    print_bytes(bytes);
+fn show(out: &mut impl Write, name: &[u8], numbers: &[u16], bytes: &[u8]) -> io::Result<()> {
+    print(out, name)?;
+    print_numbers(out, numbers)?;
+    print_bytes(out, bytes)
 }
 
 // A case of no call that is known.
-fn pass_over() {
-    print(b"passed over\n");
+fn pass_over(out: &mut impl Write) -> io::Result<()> {
+    print(out, b"passed over\n")
 }
 
 // An operation of the field: a sum, a product, and else a quotient.
@@ -161,39 +168,42 @@ fn element_of(call: u8, u: u8, v: u8) -> FilmElement {
 }
 
 // The name of such an operation.
-fn print_operation(call: u8) {
+fn print_operation(out: &mut impl Write, call: u8) -> io::Result<()> {
     match call {
-        SUM => print(b"sum"),
-        PRODUCT => print(b"product"),
-        _ => print(b"quotient"),
+        SUM => print(out, b"sum"),
+        PRODUCT => print(out, b"product"),
+        _ => print(out, b"quotient"),
     }
 }
 
 // Prints a space and the value, or `r` and the refusal.
-fn print_element(element: FilmElement) {
+fn print_element(out: &mut impl Write, element: FilmElement) -> io::Result<()> {
     if element.answer == 0 {
-        print(b" ");
-        print_byte(element.value);
+        print(out, b" ")?;
+        print_byte(out, element.value)
     } else {
-        print(b" r");
-        io::print_decimal(STDOUT_FILENO, element.answer as u64);
+        print(out, b" r")?;
+        streams::print_decimal(out, element.answer as u64)
     }
 }
 
 // A row of sums, products or quotients, with one first operand.
-fn row(call: u8, u: u8, seconds: &[u8]) {
-    print_operation(call);
-    let mut i: usize = 0;
-    while i < seconds.len() {
-        print_element(element_of(call, u, seconds[i]));
-        i += 1;
+fn row(out: &mut impl Write, call: u8, u: u8, seconds: &[u8]) -> io::Result<()> {
+    print_operation(out, call)?;
+    for x in seconds {
+        print_element(out, element_of(call, u, *x))?;
     }
-    print(b"\n");
+    print(out, b"\n")
 }
 
-fn encode_line(text: &[u8], number: u16, output: &mut [u8]) {
+fn encode_line(
+    out: &mut impl Write,
+    text: &[u8],
+    number: u16,
+    output: &mut [u8],
+) -> io::Result<()> {
     let answer = film::film_encode_line(text, number, output);
-    show(b"encode_line", &[answer as u16], output);
+    show(out, b"encode_line", &[answer as u16], output)
 }
 
 // A byte, and 0 past the end.
@@ -222,31 +232,38 @@ fn register_of(held: &[u8], count: u16) -> FilmRegister {
     }
 }
 
-fn step(held: &[u8], count: u16, c: u8) {
+fn step(out: &mut impl Write, held: &[u8], count: u16, c: u8) -> io::Result<()> {
     let given = film::recorder::film_step(register_of(held, count), c);
     let after = given.register;
     let left = after.held;
-    show(b"step", &[given.answer as u16, after.count as u16], &left);
+    show(
+        out,
+        b"step",
+        &[given.answer as u16, after.count as u16],
+        &left,
+    )
 }
 
-fn checks(held: &[u8], count: u16) {
+fn checks(out: &mut impl Write, held: &[u8], count: u16) -> io::Result<()> {
     let given = film::recorder::film_checks(register_of(held, count));
     let checks = given.checks;
-    show(b"checks", &[given.answer as u16], &checks);
+    show(out, b"checks", &[given.answer as u16], &checks)
 }
 
-fn list_ring(ring: &[u8], radius: u8, output: &mut [u8]) {
+fn list_ring(out: &mut impl Write, ring: &[u8], radius: u8, output: &mut [u8]) -> io::Result<()> {
     let given = film::film_list_ring(ring, radius, output);
     show(
+        out,
         b"list_ring",
         &[given.answer as u16, given.count as u16],
         output,
-    );
+    )
 }
 
-fn read_ring(ring: &[u8], radius: u8, output: &mut [u8]) {
+fn read_ring(out: &mut impl Write, ring: &[u8], radius: u8, output: &mut [u8]) -> io::Result<()> {
     let given = film::film_read_ring(ring, radius, output);
     show(
+        out,
         b"read_ring",
         &[
             given.answer as u16,
@@ -257,68 +274,91 @@ fn read_ring(ring: &[u8], radius: u8, output: &mut [u8]) {
             given.last as u16,
         ],
         output,
-    );
+    )
 }
 
 // Which of two scans is kept, as a C program is told, and its bytes, as they are handed back.
-fn better_scan<'a>(first: &'a [u8], second: &'a [u8], radius: u8) {
+fn better_scan<'a>(
+    out: &mut impl Write,
+    first: &'a [u8],
+    second: &'a [u8],
+    radius: u8,
+) -> io::Result<()> {
     let given = film::film_better_scan(first, second, radius);
     let mut answer: u8 = 0;
     let kept = scans::better_scan(first, second, radius, &mut answer);
     show(
+        out,
         b"better_scan",
         &[given.answer as u16, given.scan as u16, answer as u16],
         kept,
-    );
+    )
 }
 
 // The same of two scans that stand one after the other, the first of a length, or of all there is.
-fn better_of_two(both: &[u8], length: usize, radius: u8) {
+fn better_of_two(out: &mut impl Write, both: &[u8], length: usize, radius: u8) -> io::Result<()> {
     if length <= both.len() {
-        better_scan(&both[..length], &both[length..], radius);
+        better_scan(out, &both[..length], &both[length..], radius)
     } else {
-        better_scan(both, &both[..0], radius);
+        better_scan(out, both, &both[..0], radius)
     }
 }
 
-fn panel_text(text: &[u8], output: &mut [u8]) {
+fn panel_text(out: &mut impl Write, text: &[u8], output: &mut [u8]) -> io::Result<()> {
     let given = film::film_panel_text(text, output);
-    show(b"panel_text", &[given.answer as u16, given.length], output);
+    show(
+        out,
+        b"panel_text",
+        &[given.answer as u16, given.length],
+        output,
+    )
 }
 
-fn panel_ring(ring: &[u8], radius: u8, output: &mut [u8]) {
+fn panel_ring(out: &mut impl Write, ring: &[u8], radius: u8, output: &mut [u8]) -> io::Result<()> {
     let given = film::film_panel_ring(ring, radius, output);
-    show(b"panel_ring", &[given.answer as u16, given.length], output);
+    show(
+        out,
+        b"panel_ring",
+        &[given.answer as u16, given.length],
+        output,
+    )
 }
 
 // Hands a case to the function of its call.
-fn hand_over(call: u8, small: u8, number: u16, input: &[u8], output: &mut [u8]) {
+fn hand_over(
+    out: &mut impl Write,
+    call: u8,
+    small: u8,
+    number: u16,
+    input: &[u8],
+    output: &mut [u8],
+) -> io::Result<()> {
     match call {
-        SUM | PRODUCT | QUOTIENT => row(call, small, input),
-        ENCODE_LINE => encode_line(input, number, output),
-        STEP => step(input, number, small),
-        CHECKS => checks(input, number),
-        READ_LINE => lines::read_line(input, small, output),
-        READ_LINE_WANTED => lines::read_line_wanted(input, small, number, output),
-        LIST_RING => list_ring(input, small, output),
-        READ_RING => read_ring(input, small, output),
-        ENCODE_BLOCK => blocks::encode_block(input, output),
-        READ_BLOCK => blocks::read_block(input, output),
-        BETTER_SCAN => better_of_two(input, wide(number), small),
-        PANEL_TEXT => panel_text(input, output),
-        PANEL_RING => panel_ring(input, small, output),
-        READ_SPOOL => lines::read_spool(input, small, output),
-        READ_BLOTTED => lines::read_with_map(input, wide(number), output),
-        READ_LINE_PAPER => lines::read_line_paper(input, small, output),
-        READ_LINE_PAPER_WANTED => lines::read_line_paper_wanted(input, small, number, output),
-        READ_SHEET => sheets::read_sheet(input, output),
-        ENCODE_SHEET => sheets::encode_from(input, wide(number), output),
-        OPEN_TRAY => open_trays::open_tray(input, wide(number), small),
-        ENCODE_SMUDGE => blocks::encode_smudge(input, output),
-        READ_SMUDGE => blocks::read_smudge(input, output),
-        SCAN_CLARITY => clarity::scan_clarity(input, small),
-        SPOOL_CLARITY => clarity::spool_clarity(input, wide(number), small),
-        _ => pass_over(),
+        SUM | PRODUCT | QUOTIENT => row(out, call, small, input),
+        ENCODE_LINE => encode_line(out, input, number, output),
+        STEP => step(out, input, number, small),
+        CHECKS => checks(out, input, number),
+        READ_LINE => lines::read_line(out, input, small, output),
+        READ_LINE_WANTED => lines::read_line_wanted(out, input, small, number, output),
+        LIST_RING => list_ring(out, input, small, output),
+        READ_RING => read_ring(out, input, small, output),
+        ENCODE_BLOCK => blocks::encode_block(out, input, output),
+        READ_BLOCK => blocks::read_block(out, input, output),
+        BETTER_SCAN => better_of_two(out, input, wide(number), small),
+        PANEL_TEXT => panel_text(out, input, output),
+        PANEL_RING => panel_ring(out, input, small, output),
+        READ_SPOOL => lines::read_spool(out, input, small, output),
+        READ_BLOTTED => lines::read_with_map(out, input, wide(number), output),
+        READ_LINE_PAPER => lines::read_line_paper(out, input, small, output),
+        READ_LINE_PAPER_WANTED => lines::read_line_paper_wanted(out, input, small, number, output),
+        READ_SHEET => sheets::read_sheet(out, input, output),
+        ENCODE_SHEET => sheets::encode_from(out, input, wide(number), output),
+        OPEN_TRAY => open_trays::open_tray(out, input, wide(number), small),
+        ENCODE_SMUDGE => blocks::encode_smudge(out, input, output),
+        READ_SMUDGE => blocks::read_smudge(out, input, output),
+        SCAN_CLARITY => clarity::scan_clarity(out, input, small),
+        SPOOL_CLARITY => clarity::spool_clarity(out, input, wide(number), small),
+        _ => pass_over(out),
     }
 }
 
@@ -342,49 +382,59 @@ fn untouched() -> [u8; LONGEST]
 }
 
 // Runs a case, with an output of the length that it names.
-fn run_case(head: [u8; HEAD], input: &[u8]) {
+fn run_case(out: &mut impl Write, head: [u8; HEAD], input: &[u8]) -> io::Result<()> {
     let mut output = untouched();
     let room = wide(joined(head[4], head[5]));
     hand_over(
+        out,
         head[0],
         head[1],
         joined(head[2], head[3]),
         input,
         &mut output[..room],
-    );
+    )
 }
 
 // Fills the input of a case and runs the case, or tells that standard input ends first.
-fn filled_case(head: [u8; HEAD], input: &mut [u8]) -> bool {
-    if io::read_full(STDIN_FILENO, input) < input.len() {
-        return false;
+fn filled_case(
+    from: &mut impl Read,
+    out: &mut impl Write,
+    head: [u8; HEAD],
+    input: &mut [u8],
+) -> io::Result<bool> {
+    if streams::read_full(from, input)? < input.len() {
+        return Ok(false);
     }
-    run_case(head, input);
-    true
+    run_case(out, head, input)?;
+    Ok(true)
 }
 
 // Takes the next case and runs it, or tells that standard input ends first.
-fn next_case() -> bool {
+fn next_case(from: &mut impl Read, out: &mut impl Write) -> io::Result<bool> {
     let mut head = [0u8; HEAD];
-    if io::read_full(STDIN_FILENO, &mut head) < HEAD {
-        return false;
+    if streams::read_full(from, &mut head)? < HEAD {
+        return Ok(false);
     }
     let mut input = untouched();
     let n = wide(joined(head[6], head[7]));
-    filled_case(head, &mut input[..n])
+    filled_case(from, out, head, &mut input[..n])
 }
 
 // Runs so many cases, or as many as there are.
-fn run_cases(most: u32) {
-    let mut i: u32 = 0;
-    while i < most {
-        if !next_case() {
-            return;
+fn run_cases(from: &mut impl Read, out: &mut impl Write, most: u32) -> io::Result<()> {
+    for _ in 0..most {
+        if !next_case(from, out)? {
+            break;
         }
-        i += 1;
     }
+    Ok(())
 }
 
-fn main() {
-    run_cases(MOST_CASES);
+fn main(rt: HostRuntime) -> io::Result<()> {
+    let mut from = BufReader::new(rt.alloc(), rt.stdin())?;
+    let mut out = BufWriter::new(rt.alloc(), io::writer(&rt))?;
+    let ran = run_cases(&mut from, &mut out, MOST_CASES);
+    // what was answered before a read or a write failed is written too
+    let written = out.flush();
+    ran.and(written)
 }

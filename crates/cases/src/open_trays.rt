@@ -1,6 +1,11 @@
 // The calls of an open tray: a case is one tray, empty at first, and steps. Each operation is printed with what it changed; bytes are written by hand between.
+ghost use Rattle.std.specs.Prelude.{◌++◌, OnOk, codes};
+ghost use Rattle.std.specs.Io.KnownBytes.{Appends};
+ghost use Rattle.streams.specs.Hex.{hex};
+
 use super::{joined, pass_over, print, print_byte, print_number, print_numbers, wide};
-use libc::STDOUT_FILENO;
+use std::io;
+use std::io::Write;
 
 // The bytes of a tray, and where it has the number of its lines and the count.
 const TRAY: usize = 4738;
@@ -31,65 +36,77 @@ fn empty(byte: u8) -> [u8; TRAY] {
 }
 
 // Prints a space, a place and the byte there.
-fn print_change(place: usize, byte: u8) {
-    print(b" ");
-    io::print_hex(STDOUT_FILENO, place as u64, 4);
-    print(b":");
-    print_byte(byte);
+fn print_change<W: Write>(out: &mut W, place: usize, byte: u8) -> io::Result<()>
+    ensures { OnOk result (Appends (W.contents out.old) (W.contents out.new) (codes " " ++ hex 4 place ++ codes ":" ++ hex 2 byte)) }
+{
+    print(out, b" ")?;
+    streams::print_hex(out, place as u64, 4)?;
+    print(out, b":")?;
+    print_byte(out, byte)
 }
 
 // Prints what a tray has where it had something else, and ends the line.
-fn print_changes(before: &[u8; TRAY], after: &[u8; TRAY]) {
-    let mut i: usize = 0;
-    while i < TRAY {
+fn print_changes(out: &mut impl Write, before: &[u8; TRAY], after: &[u8; TRAY]) -> io::Result<()> {
+    for i in 0..TRAY {
         if before[i] != after[i] {
-            print_change(i, after[i]);
+            print_change(out, i, after[i])?;
         }
-        i += 1;
     }
-    print(b"\n");
+    print(out, b"\n")
 }
 
-fn add(tray: &mut [u8; TRAY], line: &[u8]) {
+fn add(out: &mut impl Write, tray: &mut [u8; TRAY], line: &[u8]) -> io::Result<()> {
     let before = *tray;
     let answer = film::trays::film_tray_add(tray, line);
-    print(b"tray_add");
-    print_number(answer as u16);
-    print_changes(&before, tray);
+    print(out, b"tray_add")?;
+    print_number(out, answer as u16)?;
+    print_changes(out, &before, tray)
 }
 
 // Adds a part of the lines, or nothing where they end before it does.
-fn add_part(tray: &mut [u8; TRAY], lines: &[u8], start: u16, length: u8) {
+fn add_part(
+    out: &mut impl Write,
+    tray: &mut [u8; TRAY],
+    lines: &[u8],
+    start: u16,
+    length: u8,
+) -> io::Result<()> {
     let from = wide(start);
     let to = from + length as usize;
     if to <= lines.len() {
-        add(tray, &lines[from..to]);
+        add(out, tray, &lines[from..to])
     } else {
-        add(tray, &lines[..0]);
+        add(out, tray, &lines[..0])
     }
 }
 
-fn replace(tray: &mut [u8; TRAY], line: u8, address: u8, character: u8) {
+fn replace(
+    out: &mut impl Write,
+    tray: &mut [u8; TRAY],
+    line: u8,
+    address: u8,
+    character: u8,
+) -> io::Result<()> {
     let before = *tray;
     let answer = film::trays::film_tray_replace(tray, line, address, character);
-    print(b"tray_replace");
-    print_number(answer as u16);
-    print_changes(&before, tray);
+    print(out, b"tray_replace")?;
+    print_number(out, answer as u16)?;
+    print_changes(out, &before, tray)
 }
 
-fn drop_last(tray: &mut [u8; TRAY]) {
+fn drop_last(out: &mut impl Write, tray: &mut [u8; TRAY]) -> io::Result<()> {
     let before = *tray;
     let answer = film::trays::film_tray_drop(tray);
-    print(b"tray_drop");
-    print_number(answer as u16);
-    print_changes(&before, tray);
+    print(out, b"tray_drop")?;
+    print_number(out, answer as u16)?;
+    print_changes(out, &before, tray)
 }
 
-fn ask(tray: &[u8; TRAY]) {
+fn ask(out: &mut impl Write, tray: &[u8; TRAY]) -> io::Result<()> {
     let given = film::trays::film_tray_count(tray);
-    print(b"tray_count");
-    print_numbers(&[given.answer as u16, given.count as u16]);
-    print(b"\n");
+    print(out, b"tray_count")?;
+    print_numbers(out, &[given.answer as u16, given.count as u16])?;
+    print(out, b"\n")
 }
 
 // Writes a byte by hand. Past the tray there is no place for it.
@@ -99,40 +116,53 @@ fn write(tray: &mut [u8; TRAY], place: usize, byte: u8) {
     }
 }
 
-fn take_step(tray: &mut [u8; TRAY], lines: &[u8], kind: u8, a: u8, b: u8, c: u8) {
+fn take_step(
+    out: &mut impl Write,
+    tray: &mut [u8; TRAY],
+    lines: &[u8],
+    kind: u8,
+    a: u8,
+    b: u8,
+    c: u8,
+) -> io::Result<()> {
     match kind {
-        ADD => add_part(tray, lines, joined(a, b), c),
-        REPLACE => replace(tray, a, b, c),
-        DROP => drop_last(tray),
-        ASK => ask(tray),
-        WRITE => write(tray, wide(joined(a, b)), c),
-        _ => pass_over(),
+        ADD => add_part(out, tray, lines, joined(a, b), c),
+        REPLACE => replace(out, tray, a, b, c),
+        DROP => drop_last(out, tray),
+        ASK => ask(out, tray),
+        WRITE => {
+            write(tray, wide(joined(a, b)), c);
+            Ok(())
+        }
+        _ => pass_over(out),
     }
 }
 
 // Takes each step from an empty tray on.
-fn take_steps(byte: u8, lines: &[u8], steps: &[u8]) {
-    print(b"open_tray\n");
+fn take_steps(out: &mut impl Write, byte: u8, lines: &[u8], steps: &[u8]) -> io::Result<()> {
+    print(out, b"open_tray\n")?;
     let mut tray = empty(byte);
     let mut i: usize = 0;
     while steps.len() - i >= STEP {
         take_step(
+            out,
             &mut tray,
             lines,
             steps[i],
             steps[i + 1],
             steps[i + 2],
             steps[i + 3],
-        );
+        )?;
         i += STEP;
     }
+    Ok(())
 }
 
 // The same where the lines and the steps stand one after the other, the lines of a length, or of all there is.
-pub fn open_tray(both: &[u8], length: usize, byte: u8) {
+pub fn open_tray(out: &mut impl Write, both: &[u8], length: usize, byte: u8) -> io::Result<()> {
     if length <= both.len() {
-        take_steps(byte, &both[..length], &both[length..]);
+        take_steps(out, byte, &both[..length], &both[length..])
     } else {
-        take_steps(byte, both, &both[..0]);
+        take_steps(out, byte, both, &both[..0])
     }
 }

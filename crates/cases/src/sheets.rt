@@ -2,22 +2,30 @@
 ghost use Rattle.std.specs.Prelude.{◌≡◌, ◌≤◌, length};
 
 use super::{joined, show};
+use std::io;
+use std::io::Write;
 
 // The most numbers that are handed over, more than a sheet has.
 const MOST_NUMBERS: usize = 64;
 
-pub fn read_sheet(sheet: &[u8], output: &mut [u8]) {
+pub fn read_sheet(out: &mut impl Write, sheet: &[u8], output: &mut [u8]) -> io::Result<()> {
     let given = film::sheets::film_read_sheet(sheet, output);
     show(
+        out,
         b"read_sheet",
         &[given.answer as u16, given.rounds as u16],
         output,
-    );
+    )
 }
 
-fn encode_sheet(texts: &[u8], numbers: &[u16], output: &mut [u8]) {
+fn encode_sheet(
+    out: &mut impl Write,
+    texts: &[u8],
+    numbers: &[u16],
+    output: &mut [u8],
+) -> io::Result<()> {
     let answer = film::sheets::film_encode_sheet(texts, numbers, output);
-    show(b"encode_sheet", &[answer as u16], output);
+    show(out, b"encode_sheet", &[answer as u16], output)
 }
 
 // How many numbers of two bytes stand in bytes, and MOST_NUMBERS where there are more.
@@ -57,17 +65,27 @@ fn numbers_of(bytes: &[u8]) -> [u16; MOST_NUMBERS]
 }
 
 // A sheet from its texts and the bytes of its numbers.
-fn encode_numbered(texts: &[u8], bytes: &[u8], output: &mut [u8]) {
+fn encode_numbered(
+    out: &mut impl Write,
+    texts: &[u8],
+    bytes: &[u8],
+    output: &mut [u8],
+) -> io::Result<()> {
     let numbers = numbers_of(bytes);
     let count = count_numbers(bytes);
-    encode_sheet(texts, &numbers[..count], output);
+    encode_sheet(out, texts, &numbers[..count], output)
 }
 
 // The same where these stand one after the other, the texts of a length, or of all there is.
-pub fn encode_from(both: &[u8], length: usize, output: &mut [u8]) {
+pub fn encode_from(
+    out: &mut impl Write,
+    both: &[u8],
+    length: usize,
+    output: &mut [u8],
+) -> io::Result<()> {
     if length <= both.len() {
-        encode_numbered(&both[..length], &both[length..], output);
+        encode_numbered(out, &both[..length], &both[length..], output)
     } else {
-        encode_numbered(both, &both[..0], output);
+        encode_numbered(out, both, &both[..0], output)
     }
 }

@@ -1,0 +1,2 @@
+-- What a number is in hexadecimal digits.
+pub mod Hex

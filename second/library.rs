@@ -70,7 +70,7 @@ use std::fmt::Debug;
 use std::process::exit;
 
 /// The version that the library has to tell. tools/tables writes it from version.txt.
-const VERSION: u32 = 4009000;
+const VERSION: u32 = 4008000;
 
 const UNTOUCHED: u8 = 170;
 

@@ -10,7 +10,7 @@ sys.dont_write_bytecode = True
 from shared import words
 
 ROOT = pathlib.Path(__file__).resolve().parents[1]
-EXAMPLES = {"c": "bindings/c/example.c", "rust": "bindings/rust/examples/read.rs", "python": "bindings/python/example.py"}
+EXAMPLES = {"c": "bindings/c/example_text.c", "rust": "bindings/rust/examples/read_text.rs", "python": "bindings/python/example_text.py"}
 
 
 def main():

@@ -189,6 +189,13 @@ def echoed(self, status, words, allow=""):
     self.drain()
 
 
+def whole_or_more(file):
+    tray = tray_file.begun(file)
+    if tray.stops and "block" not in tray.stops:
+        raise tray_file.NoTray(tray.stops)
+    return tray._replace(blocks=[])
+
+
 def without_version(self, status, kind, content, allow=""):
     if self.request_version == "HTTP/0.9":
         self.wfile.write(content)
@@ -201,7 +208,7 @@ FAULTS = [
     ("a note as it is in the page", page, "cells", as_it_is),
     ("the first start that fits", reading, "ring_row", first_start),
     ("a refusal that repeats the address", server.Handler, "refuse", echoed),
-    ("bytes left over taken for none", tray_file, "tray_of", tray_file.begun),
+    ("bytes left over taken for none", tray_file, "tray_of", whole_or_more),
     ("a longer tray taken", tray_file, "LONGEST", LONGEST + 1),
     ("an answer without its head", server.Handler, "answer", without_version),
     ("a refusal without the policy", server, "HEADERS", {name: value for name, value in HEADERS.items() if name != "Content-Security-Policy"}),

@@ -10,13 +10,18 @@ what came. A negative number, or a threshold over 255, is a ValueError. A charac
     ('HELLO, FILM', 65, 1)
     >>> film.read_ring(line[4:] + line[:4], 1).start
     59
+    >>> line = film.encode_line(bytes(50), 65)
+    >>> film.read_line(line, 5).number
+    65
+    >>> film.read_ring(line[4:] + line[:4], 1).start
+    59
     >>> film.read_line(line, 6)
     Traceback (most recent call last):
     film.Refused: refused (3): radius over 5: radius 6 came
 
 Where an output `out` is handed in (a bytearray), it is written in place of a new one; in a refusal it is as it was, but for an ImproperSheet. So is an
-OpenTray. The shared library is the one in the folder that FILM_LIBRARY names; where it names none, the one inside the package, or else that of this checkout,
-target/film, which tools/build-library makes. Where there is none, or one of another major version, importing raises an ImportError.
+OpenTray. The shared library is the one that FILM_LIBRARY names, or the one in the folder that it names; where it names none, the one inside the package, or
+else that of this checkout, target/film, which tools/build-library makes. Where there is none, or one of another major version, importing raises an ImportError.
 """
 
 from ._blocks import encode_block, encode_smudge, read_block, read_smudge

@@ -12,9 +12,11 @@ _WANTED = f"this binding is for version {__version__} or a later {MAJOR}"
 
 
 def shared_library(package: pathlib.Path) -> pathlib.Path:
-    """The library in the folder that FILM_LIBRARY names. Where it names none, the library inside the package, or else the one that tools/build-library has made
-    in the checkout around it. An ImportError says that there is none, and what to do."""
+    """The library that FILM_LIBRARY names, or the one in the folder that it names. Where it names none, the library inside the package, or else the one that
+    tools/build-library has made in the checkout around it. An ImportError says that there is none, and what to do."""
     named = os.environ.get("FILM_LIBRARY")
+    if named and os.path.isfile(named):
+        return pathlib.Path(named).parent.resolve() / pathlib.Path(named).name
     folders = [pathlib.Path(named)] if named else [package, package / "../../../target/film"]
     for folder in folders:
         for name in (f"libfilm.so.{MAJOR}", "libfilm.so"):
@@ -38,7 +40,7 @@ def _version_of(library: ctypes.CDLL, path: pathlib.Path) -> str:
     number = library.film_version()
     written = f"{number // 1000000}.{number // 1000 % 1000}.{number % 1000}"
     if number // 1000000 != MAJOR:
-        raise ImportError(f"{path} is version {written}; {_WANTED}")
+        raise ImportError(f"{path} is of major version {number // 1000000}; {_WANTED}: it is version {written}")
     return written
 
 

@@ -15,6 +15,12 @@ def panel_text(text: BytesLike, out: Optional[bytearray] = None) -> str:
     >>> film.panel_text(film.characters_of("AT&T <B>", film.TEMPLATE))
     Traceback (most recent call last):
     film.Refused: refused (14): panel text: the kind is 1, a template
+    >>> note = [ord(c) - 32 for c in "AT&T <B>".ljust(49)]
+    >>> film.panel_text([0] + note).rstrip()
+    'AT&amp;T &lt;B&gt;'
+    >>> film.panel_text([1] + note)
+    Traceback (most recent call last):
+    film.Refused: refused (14): panel text: the kind is 1, a template
     """
     result, shown = write("panel_text", text, out=out)
     return shown[: result.length].decode("ascii")

@@ -18,7 +18,7 @@ from film_command import explain, ring_drawing
 from film_command.ring_starts import listed
 
 ROOT = BINDING.parents[1]
-SAMPLE = ROOT / "samples" / "ring.tray"
+SAMPLE = ROOT / "samples" / "rings" / "ring.tray"
 RADII = range(6)
 STARTS = range(126)
 SVG = "{http://www.w3.org/2000/svg}"
@@ -302,7 +302,7 @@ class Pictures(unittest.TestCase):
                 picture = pathlib.Path(folder) / "picture.svg"
                 with contextlib.redirect_stdout(io.StringIO()):
                     film_command.main(["explain", str(SAMPLE), "--radius", str(radius), "--svg", str(picture)])
-                command = f"tools/film explain samples/ring.tray --radius {radius} --svg {kept.relative_to(ROOT)}"
+                command = f"tools/film explain samples/rings/ring.tray --radius {radius} --svg {kept.relative_to(ROOT)}"
                 self.assertTrue(kept.exists() and kept.read_bytes() == picture.read_bytes(), f"another picture is drawn now: {command}")
             self.assertEqual(len(Drawn(kept.read_text()).numbers), count)
 

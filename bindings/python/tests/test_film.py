@@ -1,10 +1,17 @@
 """Tests of the field, lines, spools, two scans, rings, panel text, blocks and the register: what each function gives, every refusal by its number, and outputs
 that stay as they were."""
 
+import doctest
 import itertools
+import os
+import pathlib
+import subprocess
+import tempfile
 import unittest
 
 from words import TestCase, film
+
+from film import _loading
 
 Z = film.encode_line(bytes(50), 0)
 
@@ -276,6 +283,32 @@ class Tests(TestCase):
         odd.step(1)
         self.assertEqual((odd.held, odd.count), (bytes([2, 3, 4, 5, 6, 7, 8, 9, 10, 11, 0]), 52))
         self.assertRaises(ValueError, film.Register, bytes(10))
+
+    def test_unknown_refusal(self):
+        for number in range(1, 256):
+            self.assertEqual(film.Refused(number).number, number)
+        self.assertEqual(str(film.Refused(6)), "refused (6): no line within the radius; for ring reading, an empty list; with blots, no such line")
+        self.assertEqual(str(film.Refused(255)), "refused (255): a reason that this binding does not know")
+
+    def test_version(self):
+        major, minor, patch = map(int, film.__version__.split("."))
+        self.assertEqual(film.version(), 1000000 * major + 1000 * minor + patch)
+
+    def test_other_libraries(self):
+        """A library of another major version is not taken, and neither is one that tells none."""
+        other = film.version() + 1000000
+        with tempfile.TemporaryDirectory() as folder:
+            for says, source in (
+                (f"is of major version {other // 1000000};", f"unsigned film_version(void) {{ return {other}; }}"),
+                ("tells no version;", "int other;"),
+            ):
+                library = pathlib.Path(folder) / f"{len(says)}.so"
+                subprocess.run([os.environ.get("CC", "gcc"), "-shared", "-fPIC", "-x", "c", "-", "-o", library], input=source.encode(), check=True)
+                with self.assertRaisesRegex(ImportError, says):
+                    _loading.load(library)
+
+    def test_documentation(self):
+        self.assertEqual(doctest.testmod(film, extraglobs={"film": film}).failed, 0)
 
 
 if __name__ == "__main__":

@@ -56,8 +56,16 @@ class Finding(unittest.TestCase):
             for folder in (self.package, self.built):
                 (folder / name).touch()
             self.assertEqual(found(self.package, self.built), self.built / name)
-        for named in (self.other, self.root / "nowhere", self.built / NAMES[0]):
+        for named in (self.other, self.root / "nowhere"):
             self.is_none(named, repr(str(named)), f"no {NAMES[0]}", "the folder in which libfilm.so lies")
+
+    def test_file(self):
+        """The library that FILM_LIBRARY names, whatever it is called, as up to version 4.8.0, and no other."""
+        for name in (*NAMES, "other.so"):
+            for folder in (self.package, self.built, self.other):
+                (folder / name).touch()
+            self.assertEqual(found(self.package, self.built / name), self.built / name)
+        self.is_none(self.built / "nothing.so", repr(str(self.built / "nothing.so")))
 
     def test_here(self):
         """A folder that is named from where the program runs gives a path that the loader looks up nowhere else."""
@@ -86,8 +94,14 @@ class Loading(unittest.TestCase):
         (self.folder / "text.so").write_text("no library")
         wanted = f"this binding is for version {film.__version__} or a later {MAJOR}"
         for says, path in (
-            (f"is version {MAJOR + 1}.2.3; {wanted}", self.compiled("later.so", f"unsigned film_version(void) {{ return {MAJOR + 1}002003; }}")),
-            (f"is version {MAJOR - 1}.0.1; {wanted}", self.compiled("earlier.so", f"unsigned film_version(void) {{ return {MAJOR - 1}000001; }}")),
+            (
+                f"is of major version {MAJOR + 1}; {wanted}: it is version {MAJOR + 1}.2.3",
+                self.compiled("later.so", f"unsigned film_version(void) {{ return {MAJOR + 1}002003; }}"),
+            ),
+            (
+                f"is of major version {MAJOR - 1}; {wanted}: it is version {MAJOR - 1}.0.1",
+                self.compiled("earlier.so", f"unsigned film_version(void) {{ return {MAJOR - 1}000001; }}"),
+            ),
             (f"tells no version; {wanted}", self.compiled("other.so", "int other;")),
             (f"is version {MAJOR}.0.7 and has no film_sum; {wanted}", self.compiled("old.so", f"unsigned film_version(void) {{ return {MAJOR}000007; }}")),
             ("cannot be loaded: ", self.folder / "text.so"),

@@ -21,6 +21,19 @@
 //! assert_eq!(film::panel_text(&line[..50], &mut page)?.trim_end(), "A &lt;B&gt; &amp; C");
 //! # Ok::<(), Box<dyn std::error::Error>>(())
 //! ```
+//!
+//! ```
+//! let mut line = [0; 63];
+//! film::encode_line(&[7; 50], 65, &mut line)?;
+//! let mut ring = line;
+//! ring.rotate_left(4);
+//! ring[9] ^= 5;
+//! let read = film::read_line(&line, 5, None, &mut [0; 63])?;
+//! let found = film::read_ring(&ring, 1, &mut line)?;
+//! assert_eq!((read.number, read.distance), (65, 0));
+//! assert_eq!((found.start, found.number, found.distance), (59, 65, 1));
+//! # Ok::<(), film::Refusal>(())
+//! ```
 
 #![no_std]
 #![deny(missing_docs)]
@@ -52,7 +65,7 @@ const LINE: usize = 63;
 
 /// The version that this crate was made for: a million times the major number, a thousand times the minor, and the patch. It is the crate's own;
 /// tools/tables writes it from version.txt.
-pub const VERSION: u32 = 4009000;
+pub const VERSION: u32 = 4008000;
 
 /// The version of the library that is linked, written as [`VERSION`] is.
 pub fn version() -> u32 {
@@ -231,6 +244,18 @@ fn shown(r: library::Panel, out: &[u8]) -> Result<&str, Refusal> {
 /// let template = film::characters_of(note, film::TEMPLATE)?;
 /// assert_eq!(film::panel_text(&template, &mut out), Err(film::Refusal::Template));
 /// # Ok::<(), Box<dyn std::error::Error>>(())
+/// ```
+///
+/// ```
+/// let mut text = [0; 50];
+/// for (v, c) in text[1..].iter_mut().zip("\"AT&T\" <B>".bytes()) {
+///     *v = c - 32;
+/// }
+/// let mut out = [0; film::PANEL];
+/// assert_eq!(film::panel_text(&text, &mut out)?.trim_end(), "&quot;AT&amp;T&quot; &lt;B&gt;");
+/// text[0] = 1;
+/// assert_eq!(film::panel_text(&text, &mut out), Err(film::Refusal::Template));
+/// # Ok::<(), film::Refusal>(())
 /// ```
 pub fn panel_text<'a>(text: &[u8], out: &'a mut [u8]) -> Result<&'a str, Refusal> {
     shown(library::panel_text(text, out), out)

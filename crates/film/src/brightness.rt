@@ -33,8 +33,8 @@ pub struct FilmClarities {
 
 // A scan's record and answer in the library's form.
 fn scan_told(means: Means, given: Clarity) -> FilmScan
-    ensures result_value { scan_numbers result ≡ Clearly.clarity_numbers given }
-    ensures result_value_2 { scan_given result ≡ Clearly.given_of means given }
+    ensures numbers { scan_numbers result ≡ Clearly.clarity_numbers given }
+    ensures doubles { scan_given result ≡ Clearly.given_of means given }
 {
     match given {
         Clarity::Ratio(ratio) => FilmScan {

@@ -31,7 +31,7 @@ pub mod sheets;
 pub mod trays;
 
 // The library's version: a million times the major number, a thousand times the minor, and the patch. tools/tables writes it from version.txt.
-const VERSION: u32 = 4009000;
+const VERSION: u32 = 4008000;
 
 // The version of the library that is linked.
 pub fn film_version() -> u32

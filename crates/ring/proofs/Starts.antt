@@ -1,10 +1,12 @@
 -- A start is listed exactly where errors as many as the radius at most have the ring's power sums with those of the marks at that start added.
 use mathlib.Core.Path.{◌≡◌, sym, ap, ap₂, ◌∙◌, subst}
+use mathlib.Core.Bool.{Bool}
 use mathlib.Core.List.{List}
 use Prim.Native.Nat.{ℕ, ◌+◌, ◌<◌, ◌≤◌}
 use native.Mathlib.Omega.{arith}
 use lib.ListN.{length, get_or}
 use lib.Seq.{ext_get_or}
+use Rattle.refusal.specs.Promise.{Tells}
 use Rattle.field.specs.Field.{sum}
 use Rattle.field.proofs.Laws
 use Rattle.polynomial.specs.Sums.{weight}
@@ -91,6 +93,9 @@ module _ (ring sums here : List ℕ) (k t : ℕ) (word : Word ring) (small : t �
           near = let light = f.light in omega arith;
         },
       )
+
+  pub start_told : (b : Bool) → Tells (ErrorsFit (added sums here) t) b → Tells (Start t ring k) b
+  start_told b m = record { holds = λ e. errors_start (m.holds e); fails = λ e s. m.fails e (start_errors s) }
 
 -- ---- the sums of the marks at a start are one list
 

@@ -1,0 +1,6 @@
+-- `film::film_sum` promises what `field::sum` does: the numbers are the same.
+use borrow.Author.Rules.{rules}
+use Rattle.film.proofs.film_sum.Goals as goal
+
+pub returns : goal.returns
+returns c = rw c.element.ensures c.sum.ensures

@@ -1,8 +1,6 @@
 -- `block::all_sevens` meets its contract. The invariant: the rows passed are at most 127.
-use Prim.Native.Nat.{◌≤◌, ◌-◌}
-use lib.ListN.{length}
 use borrow.Author.Rules.{rules}
-use Rattle.block.proofs.Loops.{SevensTo, sevens_none, sevens_more, sevens_fail, sevens_all}
+use Rattle.block.proofs.Loops.{sevens_none, sevens_more, sevens_fail, sevens_all}
 use Rattle.block.proofs.all_sevens.Goals as goal
 
 pub loop-i-init : goal.loop-i-init

@@ -1,8 +1,7 @@
 -- `block::all_sevens` meets its contract. The invariant: the rows passed are at most 127.
 use Prim.Native.Nat.{◌≤◌, ◌-◌}
 use lib.ListN.{length}
-use borrow.Author.Rules.{rules}
-use Rattle.block.proofs.Loops.{SevensTo, sevens_none, sevens_more, sevens_fail, sevens_all}
+use Rattle.block.proofs.Loops.{SevensTo}
 use Rattle.block.proofs.all_sevens.Given as goal
 
 abbrev pub invariant-loop-i : goal.invariant-loop-i

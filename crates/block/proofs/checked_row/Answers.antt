@@ -1,5 +1,4 @@
 -- `block::checked_row` meets its contract: it computes what the definition says.
-use borrow.Author.Rules.{rules}
 use Rattle.block.specs.Inside.{checked}
 use Rattle.block.proofs.checked_row.Goals as goal
 

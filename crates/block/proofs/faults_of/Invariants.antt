@@ -1,11 +1,7 @@
 -- `block::faults_of` meets its contract. The invariant: the rows passed are counted, from the last of the eights on.
 use Prim.Native.Nat.{◌-◌}
-use mathlib.Core.Logic.{⊎_elim}
-use native.Mathlib.Omega.{arith}
 use lib.ListN.{length}
-use borrow.Author.Rules.{rules}
 use Rattle.block.specs.Lanes.{CountedTo}
-use Rattle.block.proofs.Loops.{counted_odd, counted_even, counted_all}
 use Rattle.block.proofs.faults_of.Given as goal
 
 abbrev pub invariant-loop-i : goal.invariant-loop-i

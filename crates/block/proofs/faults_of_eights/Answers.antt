@@ -1,10 +1,7 @@
 -- `block::faults_of_eights` meets its contract: the loop keeps that the rows passed are counted, and that they are eights.
-use Prim.Native.Nat.{◌-◌}
-use mathlib.Core.Logic.{⊎_elim}
-use lib.ListN.{length}
 use borrow.Author.Rules.{rules}
 use Rattle.block.specs.Inside.{wanted}
-use Rattle.block.proofs.Loops.{EightsTo, eights_none, eights_odd, eights_even, eights_all}
+use Rattle.block.proofs.Loops.{eights_none, eights_odd, eights_even, eights_all}
 use Rattle.block.proofs.faults_of_eights.Goals as goal
 use Rattle.block.proofs.faults_of_eights.Goals.{else-p-ne0, then-p-ne0}
 

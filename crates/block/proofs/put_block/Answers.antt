@@ -1,10 +1,9 @@
 -- `block::put_block` meets its contract. The invariant: the rows passed stand in the output with their checks, and the rest is as it was.
-use Prim.Native.Nat.{◌-◌}
 use mathlib.Core.Path.{◌∙◌, sym}
-use lib.ListN.{length, length-set}
+use lib.ListN.{length-set}
 use borrow.Author.Rules.{rules}
 use Rattle.block.specs.Inside.{wanted}
-use Rattle.block.proofs.Loops.{PutTo, put_none, put_more, put_all}
+use Rattle.block.proofs.Loops.{put_none, put_more, put_all}
 use Rattle.block.proofs.put_block.Goals as goal
 
 -- the code's constant meets the definition's here

@@ -16,11 +16,11 @@ pub returns-then-output-n : goal.returns-then-output-n
 returns-then-output-n c = refused _ _ 1 (search verdicts)
 
 pub returns-then-faults-gt1 : goal.returns-then-faults-gt1
-returns-then-faults-gt1 c =     let many : 1 < c.faults_of-faults.result.rows = omega arith in
+returns-then-faults-gt1 c = let many : 1 < c.faults_of-faults.result.rows = omega arith in
     refused _ _ 2 (search (many_odd, verdicts))
 
 pub returns-then-distance-gt1 : goal.returns-then-distance-gt1
-returns-then-distance-gt1 c =     let many : 1 < c.ones_of-distance.result = omega arith in
+returns-then-distance-gt1 c = let many : 1 < c.ones_of-distance.result = omega arith in
     refused _ _ 2 (search (many_columns, verdicts))
 
 pub bounds-output-row : goal.bounds-output-row
@@ -30,6 +30,6 @@ pub bounds-output-row-2 : goal.bounds-output-row-2
 bounds-output-row-2 c = search row_inside
 
 pub returns : goal.returns
-returns c =     let few : c.faults_of-faults.result.rows ≤ 1 = omega arith in
+returns c = let few : c.faults_of-faults.result.rows ≤ 1 = omega arith in
     let small : c.ones_of-distance.result ≤ 1 = omega arith in
     search (found, rules)

@@ -4,7 +4,7 @@ use native.Mathlib.Omega.{arith}
 use lib.ListN.{get_or}
 use borrow.Author.Rules.{rules}
 use borrow.Author.Tests.{not-true, not-false}
-use Rattle.blots.proofs.Finding.{found_blank, some_sum, one_fewer, next_call, none_cleared, none_there, word_long, word_is, word_set, found_restored}
+use Rattle.blots.proofs.Finding.{found_blank, some_sum, one_fewer, next_call, none_cleared, none_there, found_restored}
 use Rattle.blots.proofs.+errors_of.Goals as goal
 
 pub returns-then-blot-ge-LINE : goal.returns-then-blot-ge-LINE

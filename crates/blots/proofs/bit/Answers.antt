@@ -1,5 +1,4 @@
 -- `blots::bit` meets its contract: 63 bits hold it.
-use borrow.Author.Rules.{rules}
 use Rattle.blots.proofs.Loops.{bit_is}
 use Rattle.blots.proofs.bit.Goals as goal
 

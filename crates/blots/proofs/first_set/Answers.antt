@@ -1,7 +1,5 @@
 -- `blots::first_set` meets its contract: the bytes passed are 0.
 use borrow.Author.Rules.{rules}
-use Prim.Native.Nat.{◌-◌, ◌≤◌}
-use Rattle.blots.specs.Inside.{NoneBefore}
 use Rattle.blots.proofs.Loops.{first_again, first_there, first_nowhere}
 use Rattle.blots.proofs.first_set.Goals as goal
 

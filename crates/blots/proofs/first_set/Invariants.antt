@@ -1,8 +1,6 @@
 -- `blots::first_set` meets its contract: the bytes passed are 0.
-use borrow.Author.Rules.{rules}
 use Prim.Native.Nat.{◌-◌, ◌≤◌}
 use Rattle.blots.specs.Inside.{NoneBefore}
-use Rattle.blots.proofs.Loops.{first_again, first_there, first_nowhere}
 use Rattle.blots.proofs.first_set.Given as goal
 
 abbrev pub invariant-loop-a : goal.invariant-loop-a

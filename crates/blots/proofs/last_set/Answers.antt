@@ -1,6 +1,6 @@
 -- `blots::last_set` meets its contract: the bytes from a on are 0.
 use borrow.Author.Rules.{rules}
-use Rattle.blots.proofs.Loops.{NoneFrom, last_none, last_again, last_there, last_nowhere, from_read}
+use Rattle.blots.proofs.Loops.{last_none, last_again, last_there, last_nowhere, from_read}
 use Rattle.blots.proofs.last_set.Goals as goal
 
 pub loop-a-init : goal.loop-a-init

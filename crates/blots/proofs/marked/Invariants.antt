@@ -1,9 +1,7 @@
 -- `blots::marked` meets its contract: the bytes passed are 0 or 1.
-use Prim.Native.Nat.{◌-◌, ◌<◌}
-use native.Mathlib.Omega.{arith}
-use borrow.Author.Rules.{rules}
-use lib.ListN.{length, get_or}
-use Rattle.blots.proofs.Loops.{MarkedTo, marked_none, marked_again, marked_all, marked_not}
+use Prim.Native.Nat.{◌-◌}
+use lib.ListN.{length}
+use Rattle.blots.proofs.Loops.{MarkedTo}
 use Rattle.blots.proofs.marked.Given as goal
 
 abbrev pub invariant-loop-a : goal.invariant-loop-a

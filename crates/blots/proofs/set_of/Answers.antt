@@ -1,8 +1,6 @@
 -- `blots::set_of` meets its contract: of the bytes passed each that is not 0 has its bit.
 use borrow.Author.Rules.{rules}
-use mathlib.Core.Logic.{⊎_elim}
-use Prim.Native.Nat.{◌-◌}
-use Rattle.blots.proofs.Loops.{HoldsTo, holds_none, holds_more, holds_skip, holds_all}
+use Rattle.blots.proofs.Loops.{holds_none, holds_more, holds_skip, holds_all}
 use Rattle.blots.proofs.set_of.Goals as goal
 use Rattle.blots.proofs.set_of.Goals.{else-bytes-a-ne0, then-bytes-a-ne0}
 

@@ -1,5 +1,4 @@
 -- `clarity::apart` meets its contract: what is subtracted is not the greater, and the products are small.
-use borrow.Author.Rules.{rules}
 use mathlib.Core.Path.{refl}
 use native.Mathlib.Omega.{arith}
 use Rattle.clarity.proofs.Bounds.{sum_count, difference, square_le}

@@ -1,7 +1,6 @@
 -- `clarity::count_each` meets its contract: each turn counts one answer more.
 use borrow.Author.Rules.{rules}
-use Prim.Native.Nat.{◌-◌}
-use Rattle.clarity.proofs.Loops.{CountingTo, count_none, count_more, count_all}
+use Rattle.clarity.proofs.Loops.{count_none, count_more, count_all}
 use Rattle.clarity.proofs.count_each.Goals as goal
 
 pub loop-i-init : goal.loop-i-init

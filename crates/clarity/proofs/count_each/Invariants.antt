@@ -1,7 +1,6 @@
 -- `clarity::count_each` meets its contract: each turn counts one answer more.
-use borrow.Author.Rules.{rules}
 use Prim.Native.Nat.{◌-◌}
-use Rattle.clarity.proofs.Loops.{CountingTo, count_none, count_more, count_all}
+use Rattle.clarity.proofs.Loops.{CountingTo}
 use Rattle.clarity.proofs.count_each.Given as goal
 
 abbrev pub invariant-loop-i : goal.invariant-loop-i

@@ -1,7 +1,6 @@
 -- `clarity::sides_of` meets its contract: each turn adds one cell to all, and to the dark side where it is dark.
-use borrow.Author.Rules.{rules}
 use Prim.Native.Nat.{◌-◌}
-use Rattle.clarity.proofs.Tallying.{SidesTo, sides_none, sides_more, dark_tally, bright_tally}
+use Rattle.clarity.proofs.Tallying.{SidesTo}
 use Rattle.clarity.proofs.sides_of.Given as goal
 
 abbrev pub invariant-loop-i : goal.invariant-loop-i

@@ -1,7 +1,6 @@
 -- `code::has_sums` meets its contract: the loop keeps that the sums passed are the word's, and the point of the next.
 use Prim.Native.Nat.{◌-◌}
-use borrow.Author.Rules.{rules}
-use Rattle.code.proofs.Loops.{SumsTo, sums_none, sums_again, sums_all, sums_not}
+use Rattle.code.proofs.Loops.{SumsTo}
 use Rattle.code.proofs.has_sums.Given as goal
 
 abbrev pub invariant-loop-k : goal.invariant-loop-k

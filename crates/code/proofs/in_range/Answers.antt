@@ -1,8 +1,6 @@
 -- `code::in_range` meets its contract: the loop keeps that the characters passed are at most 63.
-use Prim.Native.Nat.{◌-◌}
 use borrow.Author.Rules.{rules}
-use lib.ListN.{length}
-use Rattle.code.proofs.Loops.{LowTo, low_none, low_again, low_all, low_not}
+use Rattle.code.proofs.Loops.{low_none, low_again, low_all, low_not}
 use Rattle.code.proofs.in_range.Goals as goal
 
 pub loop-a-init : goal.loop-a-init

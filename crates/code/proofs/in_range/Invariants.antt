@@ -1,8 +1,7 @@
 -- `code::in_range` meets its contract: the loop keeps that the characters passed are at most 63.
 use Prim.Native.Nat.{◌-◌}
-use borrow.Author.Rules.{rules}
 use lib.ListN.{length}
-use Rattle.code.proofs.Loops.{LowTo, low_none, low_again, low_all, low_not}
+use Rattle.code.proofs.Loops.{LowTo}
 use Rattle.code.proofs.in_range.Given as goal
 
 abbrev pub invariant-loop-a : goal.invariant-loop-a

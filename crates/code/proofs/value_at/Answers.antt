@@ -1,8 +1,6 @@
 -- `code::value_at` meets its contract: the loop keeps the value of the characters passed, by Horner's rule.
-use Prim.Native.Nat.{◌-◌}
 use borrow.Author.Rules.{rules}
-use lib.ListN.{length}
-use Rattle.code.proofs.Loops.{ValueTo, value_none, value_again, value_all}
+use Rattle.code.proofs.Loops.{value_none, value_again, value_all}
 use Rattle.code.proofs.value_at.Goals as goal
 
 pub loop-a-init : goal.loop-a-init

@@ -1,8 +1,6 @@
 -- `eights::all_low` meets its contract: the loop keeps that the eights met are below 64 just where the bytes passed and the last eight are.
-use Prim.Native.Nat.{◌-◌}
-use lib.ListN.{length}
 use borrow.Author.Rules.{rules}
-use Rattle.eights.proofs.Loops.{LowTo, low_start, low_again, low_all, low_few}
+use Rattle.eights.proofs.Loops.{low_start, low_again, low_all, low_few}
 use Rattle.eights.proofs.all_low.Goals as goal
 
 pub returns-then-n-lt8 : goal.returns-then-n-lt8

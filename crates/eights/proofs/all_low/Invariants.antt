@@ -1,8 +1,7 @@
 -- `eights::all_low` meets its contract: the loop keeps that the eights met are below 64 just where the bytes passed and the last eight are.
 use Prim.Native.Nat.{◌-◌}
 use lib.ListN.{length}
-use borrow.Author.Rules.{rules}
-use Rattle.eights.proofs.Loops.{LowTo, low_start, low_again, low_all, low_few}
+use Rattle.eights.proofs.Loops.{LowTo}
 use Rattle.eights.proofs.all_low.Given as goal
 
 abbrev pub invariant-loop-i : goal.invariant-loop-i

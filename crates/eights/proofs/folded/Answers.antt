@@ -1,6 +1,5 @@
 -- `eights::folded` meets its contract: eight bytes, four, two and then one.
 use mathlib.Core.Path.{refl}
-use borrow.Author.Rules.{rules}
 use Rattle.eights.proofs.Laws.{folds}
 use Rattle.eights.proofs.folded.Goals as goal
 

@@ -1,8 +1,6 @@
 -- `eights::xor_of` meets its contract: the loop keeps that the bytes of z sum to those passed.
-use Prim.Native.Nat.{◌-◌}
-use lib.ListN.{length}
 use borrow.Author.Rules.{rules}
-use Rattle.eights.proofs.Loops.{XorTo, xor_start, xor_again, xor_all, xor_few}
+use Rattle.eights.proofs.Loops.{xor_start, xor_again, xor_all, xor_few}
 use Rattle.eights.proofs.xor_of.Goals as goal
 
 pub returns-then-n-lt8 : goal.returns-then-n-lt8

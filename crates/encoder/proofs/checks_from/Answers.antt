@@ -1,5 +1,4 @@
 -- `encoder::checks_from` meets its contract: the ten, and the eleventh.
-use borrow.Author.Rules.{rules}
 use Rattle.encoder.proofs.checks_from.Goals as goal
 
 pub returns : goal.returns

@@ -1,7 +1,6 @@
 -- A step of the division: the loop fills the places one by one, each with the one after it and its multiple of the generator, a lane, taken away.
 use borrow.Author.Rules.{rules}
-use Prim.Native.Nat.{◌-◌}
-use Rattle.encoder.proofs.Loops.{DividedTo, divided_none, divided_again, divided_all}
+use Rattle.encoder.proofs.Loops.{divided_none, divided_again, divided_all}
 use Rattle.encoder.proofs.divided.Goals as goal
 
 pub loop-i-init : goal.loop-i-init

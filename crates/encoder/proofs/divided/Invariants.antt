@@ -1,7 +1,6 @@
 -- A step of the division: the loop fills the places one by one, each with the one after it and its multiple of the generator, a lane, taken away.
-use borrow.Author.Rules.{rules}
 use Prim.Native.Nat.{◌-◌}
-use Rattle.encoder.proofs.Loops.{DividedTo, divided_none, divided_again, divided_all}
+use Rattle.encoder.proofs.Loops.{DividedTo}
 use Rattle.encoder.proofs.divided.Given as goal
 
 abbrev pub invariant-loop-i : goal.invariant-loop-i

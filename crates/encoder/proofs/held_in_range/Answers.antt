@@ -1,7 +1,6 @@
 -- `encoder::held_in_range` meets its contract: one number over 63 among those passed makes their union over 63.
 use borrow.Author.Rules.{rules}
-use Prim.Native.Nat.{◌-◌}
-use Rattle.encoder.proofs.Loops.{AllTo, all_none, all_again, all_over, all_low}
+use Rattle.encoder.proofs.Loops.{all_none, all_again, all_over, all_low}
 use Rattle.encoder.proofs.held_in_range.Goals as goal
 
 pub loop-i-init : goal.loop-i-init

@@ -1,10 +1,9 @@
 -- `encoder::ten_checks` meets its contract: after each sum the lanes hold what the words so far add up to.
-use borrow.Author.Rules.{rules}
 use Rattle.encoder.proofs.Interpolation.{tens_first, tens_more, tens_with}
 use Rattle.encoder.proofs.ten_checks.Goals as goal
 
 pub returns : goal.returns
-returns c =     let s = c.args.sums in
+returns c = let s = c.args.sums in
     tens_with s _
     (tens_more s 10 _ _
     (tens_more s 9 _ _

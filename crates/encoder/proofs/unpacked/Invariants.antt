@@ -1,7 +1,6 @@
 -- `encoder::unpacked` meets its contract: the last check is stored, then a lane at each turn.
-use borrow.Author.Rules.{rules}
 use Prim.Native.Nat.{◌-◌}
-use Rattle.encoder.proofs.Loops.{UnpackedTo, unpacked_none, unpacked_again, unpacked_all}
+use Rattle.encoder.proofs.Loops.{UnpackedTo}
 use Rattle.encoder.proofs.unpacked.Given as goal
 
 abbrev pub invariant-loop-i : goal.invariant-loop-i

@@ -1,5 +1,4 @@
 -- `field::quotient` meets its contract: each return is one way in which a division ends; what is divided by is not 0.
-use borrow.Author.Rules.{rules}
 use Rattle.refusal.proofs.Ladder.{told_yes, verdicts}
 use Rattle.field.proofs.Loops.{refused, with_value, by_nothing, not_nothing, by_something, by_low_bits}
 use Rattle.field.proofs.quotient.Goals as goal

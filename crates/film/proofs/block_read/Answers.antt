@@ -1,5 +1,4 @@
 -- `film::block_read` gives a reading's numbers: in each arm the struct has the fields of that case.
-use borrow.Author.Rules.{rules}
 use Rattle.film.proofs.block_read.Goals as goal
 
 pub returns-in-Block : goal.returns-in-Block

@@ -1,5 +1,4 @@
 -- `film::block_written` gives an encoding's number: in each arm that of the case.
-use borrow.Author.Rules.{rules}
 use Rattle.film.proofs.block_written.Goals as goal
 
 pub returns-in-Written : goal.returns-in-Written

@@ -1,5 +1,4 @@
 -- `film::element` gives an operation's numbers: in each arm the struct has the fields of that case.
-use borrow.Author.Rules.{rules}
 use Rattle.film.proofs.element.Goals as goal
 
 pub returns-in-Value : goal.returns-in-Value

@@ -1,5 +1,4 @@
 -- `film::film_encode_block` promises what `block::encode_block` does: the numbers are the same.
-use borrow.Author.Rules.{rules}
 use Rattle.film.proofs.film_encode_block.Goals as goal
 
 pub returns : goal.returns

@@ -1,5 +1,4 @@
 -- `film::film_encode_line` promises what `encoder::encode_line` does: in each arm the number is that of the case.
-use borrow.Author.Rules.{rules}
 use Rattle.film.proofs.film_encode_line.Goals as goal
 
 pub returns-in-Written : goal.returns-in-Written

@@ -1,5 +1,4 @@
 -- `film::film_encode_smudge` promises what `smudge::encode_smudge` does: the numbers are the same.
-use borrow.Author.Rules.{rules}
 use Rattle.film.proofs.film_encode_smudge.Goals as goal
 
 pub returns : goal.returns

@@ -1,5 +1,4 @@
 -- `film::film_list_ring` promises what `ring::list_ring` does: in each arm the numbers are those of the case.
-use borrow.Author.Rules.{rules}
 use Rattle.film.proofs.film_list_ring.Goals as goal
 
 pub returns-in-Listed : goal.returns-in-Listed

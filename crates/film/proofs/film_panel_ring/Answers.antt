@@ -1,5 +1,4 @@
 -- `film::film_panel_ring` promises what `panel::panel_ring` does: the numbers are the same.
-use borrow.Author.Rules.{rules}
 use Rattle.film.proofs.film_panel_ring.Goals as goal
 
 pub returns : goal.returns

@@ -1,5 +1,4 @@
 -- `film::film_panel_text` promises what `panel::panel_text` does: the numbers are the same.
-use borrow.Author.Rules.{rules}
 use Rattle.film.proofs.film_panel_text.Goals as goal
 
 pub returns : goal.returns

@@ -1,5 +1,4 @@
 -- `film::film_product` promises what `field::product` does: the numbers are the same.
-use borrow.Author.Rules.{rules}
 use Rattle.film.proofs.film_product.Goals as goal
 
 pub returns : goal.returns

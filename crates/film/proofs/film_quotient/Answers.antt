@@ -1,5 +1,4 @@
 -- `film::film_quotient` promises what `field::quotient` does: the numbers are the same.
-use borrow.Author.Rules.{rules}
 use Rattle.film.proofs.film_quotient.Goals as goal
 
 pub returns : goal.returns

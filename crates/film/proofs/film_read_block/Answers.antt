@@ -1,5 +1,4 @@
 -- `film::film_read_block` promises what `block::read_block` does: the numbers are the same.
-use borrow.Author.Rules.{rules}
 use Rattle.film.proofs.film_read_block.Goals as goal
 
 pub returns : goal.returns

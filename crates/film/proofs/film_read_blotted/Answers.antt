@@ -1,5 +1,4 @@
 -- `film::film_read_blotted` promises what `blots::read_blotted` does: the numbers are the same.
-use borrow.Author.Rules.{rules}
 use Rattle.film.proofs.film_read_blotted.Goals as goal
 
 pub returns : goal.returns

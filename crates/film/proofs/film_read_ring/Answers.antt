@@ -1,5 +1,4 @@
 -- `film::film_read_ring` promises what `ring::read_ring` does: in each arm the numbers are those of the case.
-use borrow.Author.Rules.{rules}
 use Rattle.film.proofs.film_read_ring.Goals as goal
 
 pub returns-in-Line : goal.returns-in-Line

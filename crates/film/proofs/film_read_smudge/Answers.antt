@@ -1,5 +1,4 @@
 -- `film::film_read_smudge` promises what `smudge::read_smudge` does: the numbers are the same.
-use borrow.Author.Rules.{rules}
 use Rattle.film.proofs.film_read_smudge.Goals as goal
 
 pub returns : goal.returns

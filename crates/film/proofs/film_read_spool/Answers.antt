@@ -1,5 +1,4 @@
 -- `film::film_read_spool` promises what `spool::read_spool` does: the places are handed on, and the number is the answer's.
-use borrow.Author.Rules.{rules}
 use Rattle.film.proofs.film_read_spool.Goals as goal
 
 pub returns : goal.returns

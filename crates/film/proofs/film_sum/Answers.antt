@@ -1,5 +1,4 @@
 -- `film::film_sum` promises what `field::sum` does: the numbers are the same.
-use borrow.Author.Rules.{rules}
 use Rattle.film.proofs.film_sum.Goals as goal
 
 pub returns : goal.returns

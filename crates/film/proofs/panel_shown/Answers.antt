@@ -1,5 +1,4 @@
 -- `film::panel_shown` gives the numbers of a panel's text: in each arm the struct has the fields of that case.
-use borrow.Author.Rules.{rules}
 use Rattle.film.proofs.panel_shown.Goals as goal
 
 pub returns-in-Written : goal.returns-in-Written

@@ -1,5 +1,4 @@
 -- `film::spool_number` gives the number of a spool's answer: the arm of a refusal has the number of its reason.
-use borrow.Author.Rules.{rules}
 use Rattle.film.proofs.spool_number.Goals as goal
 
 pub returns-in-Refused : goal.returns-in-Refused

@@ -1,7 +1,6 @@
 -- `lanes::products` meets its contract: after i turns i of the six bits of each lane of q are added.
 use borrow.Author.Rules.{rules}
-use Prim.Native.Nat.{◌-◌, ◌≤◌}
-use Rattle.lanes.proofs.Loops.{ProductsTo, spread_fits, products_none, products_again, products_all}
+use Rattle.lanes.proofs.Loops.{spread_fits, products_none, products_again, products_all}
 use Rattle.lanes.proofs.products.Goals as goal
 
 pub loop-i-init : goal.loop-i-init

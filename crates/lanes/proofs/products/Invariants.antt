@@ -1,7 +1,6 @@
 -- `lanes::products` meets its contract: after i turns i of the six bits of each lane of q are added.
-use borrow.Author.Rules.{rules}
 use Prim.Native.Nat.{◌-◌, ◌≤◌}
-use Rattle.lanes.proofs.Loops.{ProductsTo, spread_fits, products_none, products_again, products_all}
+use Rattle.lanes.proofs.Loops.{ProductsTo}
 use Rattle.lanes.proofs.products.Given as goal
 
 abbrev pub invariant-loop-i : goal.invariant-loop-i

@@ -1,7 +1,6 @@
 -- `lanes::scale` meets its contract: after i turns i of the six bits of f are added to every lane.
-use borrow.Author.Rules.{rules}
 use Prim.Native.Nat.{◌-◌}
-use Rattle.lanes.proofs.Loops.{ScaledTo, bit_fits, scaled_none, scaled_again, scaled_all}
+use Rattle.lanes.proofs.Loops.{ScaledTo}
 use Rattle.lanes.proofs.scale.Given as goal
 
 abbrev pub invariant-loop-i : goal.invariant-loop-i

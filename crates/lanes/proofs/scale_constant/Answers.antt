@@ -1,5 +1,4 @@
 -- `lanes::scale_constant` meets its contract: three bits of f choose among the first doublings, and three among the others.
-use borrow.Author.Rules.{rules}
 use Rattle.lanes.proofs.Choices.{by_choices}
 use Rattle.lanes.proofs.scale_constant.Goals as goal
 

@@ -1,5 +1,4 @@
 -- `lanes::sum_of` meets its contract: five pairs of lanes, added.
-use borrow.Author.Rules.{rules}
 use Rattle.lanes.proofs.Loops.{ten_summed}
 use Rattle.lanes.proofs.sum_of.Goals as goal
 

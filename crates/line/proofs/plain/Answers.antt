@@ -1,5 +1,4 @@
 -- `line::plain` gives a reading's numbers: in each arm the struct has the fields of that case.
-use borrow.Author.Rules.{rules}
 use Rattle.line.proofs.plain.Goals as goal
 
 pub returns-in-Line : goal.returns-in-Line

@@ -1,6 +1,5 @@
 -- `locations::divided` meets its contract: each coefficient of the quotient is the value so far, and the last value is the remainder.
-use borrow.Author.Rules.{rules}
-use Rattle.locations.proofs.Loops.{DividedTo, divided_none, divided_again, divided_read, divided_write, divided_all}
+use Rattle.locations.proofs.Loops.{DividedTo}
 use Rattle.locations.proofs.divided.Given as goal
 
 abbrev pub invariant-loop-k : goal.invariant-loop-k

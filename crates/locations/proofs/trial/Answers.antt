@@ -1,7 +1,6 @@
 -- `locations::trial` meets its contract: no element tried so far is a root.
 use borrow.Author.Rules.{rules}
-use Prim.Native.Nat.{◌≤◌, ◌<◌, ◌-◌}
-use Rattle.locations.proofs.Loops.{Missed, missed_none, missed_more, tried_here, tried_none}
+use Rattle.locations.proofs.Loops.{missed_none, missed_more, tried_here, tried_none}
 use Rattle.locations.proofs.trial.Goals as goal
 
 pub loop-x-init : goal.loop-x-init

@@ -1,7 +1,6 @@
 -- `matrix::column` meets its contract: the entries passed are those of the column.
-use Prim.Native.Nat.{◌-◌}
 use borrow.Author.Rules.{rules}
-use Rattle.matrix.proofs.Turns.{ColumnTo, column_none, column_again, column_all}
+use Rattle.matrix.proofs.Turns.{column_none, column_again, column_all}
 use Rattle.matrix.proofs.column.Goals as goal
 
 pub loop-i-init : goal.loop-i-init

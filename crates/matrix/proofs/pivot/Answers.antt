@@ -1,7 +1,6 @@
 -- `matrix::pivot` meets its contract: the rows passed have 0 in the column.
-use Prim.Native.Nat.{◌-◌}
 use borrow.Author.Rules.{rules}
-use Rattle.matrix.proofs.Turns.{PassedTo, passed_none, passed_more, pivot_here, pivot_none}
+use Rattle.matrix.proofs.Turns.{passed_none, passed_more, pivot_here, pivot_none}
 use Rattle.matrix.proofs.pivot.Goals as goal
 
 pub loop-i-init : goal.loop-i-init

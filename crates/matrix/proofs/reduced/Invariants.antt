@@ -1,8 +1,6 @@
 -- `matrix::reduced` meets its contract: the columns passed are unit columns, and what is divided by is a pivot.
 use Prim.Native.Nat.{◌-◌}
-use native.Mathlib.Omega.{arith}
-use borrow.Author.Rules.{rules}
-use Rattle.matrix.proofs.Reducing.{ReducedTo, reduced_none, pivot_divides, reduced_turn, reduced_all, reduced_stuck}
+use Rattle.matrix.proofs.Reducing.{ReducedTo}
 use Rattle.matrix.proofs.reduced.Given as goal
 
 abbrev pub invariant-loop-t : goal.invariant-loop-t

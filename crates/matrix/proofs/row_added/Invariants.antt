@@ -1,7 +1,6 @@
 -- `matrix::row_added` meets its contract: the entries passed have theirs added.
 use Prim.Native.Nat.{◌-◌}
-use borrow.Author.Rules.{rules}
-use Rattle.matrix.proofs.Turns.{AddedTo, added_none, added_again, added_all}
+use Rattle.matrix.proofs.Turns.{AddedTo}
 use Rattle.matrix.proofs.row_added.Given as goal
 
 abbrev pub invariant-loop-k : goal.invariant-loop-k

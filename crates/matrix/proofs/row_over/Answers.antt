@@ -1,7 +1,6 @@
 -- `matrix::row_over` meets its contract: the entries passed are divided.
-use Prim.Native.Nat.{◌-◌}
 use borrow.Author.Rules.{rules}
-use Rattle.matrix.proofs.Turns.{OverTo, over_none, over_again, over_all}
+use Rattle.matrix.proofs.Turns.{over_none, over_again, over_all}
 use Rattle.matrix.proofs.row_over.Goals as goal
 
 pub loop-k-init : goal.loop-k-init

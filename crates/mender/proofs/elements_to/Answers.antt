@@ -1,8 +1,6 @@
 -- `mender::elements_to` meets its contract: the sums passed are elements.
 use borrow.Author.Rules.{rules}
-use Prim.Native.Nat.{◌≤◌, ◌-◌}
 use borrow.Author.Count.{below_none}
-use Rattle.mender.specs.Found.{ElementsTo}
 use Rattle.mender.proofs.Loops.{elements_over, elements_again, elements_all}
 use Rattle.mender.proofs.elements_to.Goals as goal
 

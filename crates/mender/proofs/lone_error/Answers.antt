@@ -14,5 +14,5 @@ pub returns-then-turned-after : goal.returns-then-turned-after
 returns-then-turned-after c = search (no_error, rules)
 
 pub returns : goal.returns
-returns c =     one_error _ _ _ _ _ _ _ refl c.if-value-eq0.false c.over-place.ensures
+returns c = one_error _ _ _ _ _ _ _ refl c.if-value-eq0.false c.over-place.ensures
     c.scale-turned.ensures c.if-turned-after.false c.log_of.ensures

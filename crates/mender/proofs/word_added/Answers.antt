@@ -1,7 +1,6 @@
 -- `mender::word_added` meets its contract: the characters passed so far are added.
 use borrow.Author.Rules.{rules}
-use Prim.Native.Nat.{◌≤◌, ◌-◌}
-use Rattle.mender.proofs.Loops.{SummedTo, summed_none, summed_second, summed_all}
+use Rattle.mender.proofs.Loops.{summed_none, summed_second, summed_all}
 use Rattle.mender.proofs.word_added.Goals as goal
 
 pub loop-a-init : goal.loop-a-init

@@ -1,7 +1,6 @@
 -- `mender::word_added` meets its contract: the characters passed so far are added.
-use borrow.Author.Rules.{rules}
 use Prim.Native.Nat.{◌≤◌, ◌-◌}
-use Rattle.mender.proofs.Loops.{SummedTo, summed_none, summed_second, summed_all}
+use Rattle.mender.proofs.Loops.{SummedTo}
 use Rattle.mender.proofs.word_added.Given as goal
 
 abbrev pub invariant-loop-a : goal.invariant-loop-a

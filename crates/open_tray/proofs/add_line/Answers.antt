@@ -26,6 +26,6 @@ put_line-requires c =
     record { fit = both.0; tray_bound = both.1 }
 
 pub returns : goal.returns
-returns c =     let t = c.args.tray.now in
+returns c = let t = c.args.tray.now in
     let room = some_room t c.byte_at.result c.byte_at.ensures (omega (arith, c.if-byte_at-ge-ROOMS.false)) in
     line_added _ _ _ (search (room, verdicts) depth 9) (search rules)

@@ -1,7 +1,6 @@
 -- `open_tray::add_shares` meets its contract: the sums passed have their shares, and the logarithm is that of the next share.
 use Prim.Native.Nat.{◌-◌}
-use borrow.Author.Rules.{rules}
-use Rattle.open_tray.proofs.Sums.{SharedTo, shared_none, shared_again, shared_all, unchanged}
+use Rattle.open_tray.proofs.Sums.{SharedTo}
 use Rattle.open_tray.proofs.add_shares.Given as goal
 
 abbrev pub invariant-loop-k : goal.invariant-loop-k

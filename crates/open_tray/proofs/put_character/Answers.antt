@@ -6,8 +6,8 @@ use Rattle.open_tray.proofs.put_character.Goals as goal
 pub replace-requires : goal.replace-requires
 replace-requires c =
     let both =
-        may_replace_in {t = c.args.tray.now} {i = c.args.i} c.requires.fit c.requires.i_bound.0 c.requires.i_bound.1 c.requires.address_bound.0
-        c.requires.address_bound.1
+    may_replace_in {t = c.args.tray.now} {i = c.args.i} c.requires.fit c.requires.i_bound.0 c.requires.i_bound.1 c.requires.address_bound.0
+    c.requires.address_bound.1
     in
     record { room_len = both.0; address_bound = both.1 }
 

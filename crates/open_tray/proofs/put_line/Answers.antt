@@ -7,7 +7,7 @@ pub overflow_add-tray-2 : goal.overflow_add-tray-2
 overflow_add-tray-2 c = search (small_more, rules)
 
 pub bounds-tray-4737-2 : goal.bounds-tray-4737-2
-bounds-tray-4737-2 c =     let t = c.args.tray.now in
+bounds-tray-4737-2 c = let t = c.args.tray.now in
     still_inside t c.fill.new.room _ c.requires.fit c.requires.tray_bound.0 c.fill.auto.room
 
 pub returns : goal.returns

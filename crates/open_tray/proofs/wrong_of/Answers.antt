@@ -1,8 +1,6 @@
 -- `open_tray::wrong_of` meets its contract: the sums passed are 0.
-use Prim.Native.Nat.{◌-◌}
 use borrow.Author.Rules.{rules}
-use lib.ListN.{length}
-use Rattle.open_tray.proofs.Sums.{ZeroTo, zero_none, zero_again, zero_not, zero_all}
+use Rattle.open_tray.proofs.Sums.{zero_none, zero_again, zero_not, zero_all}
 use Rattle.open_tray.proofs.wrong_of.Goals as goal
 
 pub loop-k-init : goal.loop-k-init

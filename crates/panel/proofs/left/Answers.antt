@@ -1,6 +1,5 @@
 -- `panel::left` meets its contract.
 use mathlib.Core.Path.{sym, ap}
-use borrow.Author.Rules.{rules}
 use Rattle.panel.specs.Inside.{leaving}
 use Rattle.panel.proofs.left.Goals as goal
 

@@ -1,6 +1,5 @@
 -- `panel::panel_text` meets its contract: a refusal leaves, and plain text is written whole.
 use native.Mathlib.Omega.{arith}
-use borrow.Author.Rules.{rules}
 use Rattle.panel.proofs.Ways.{text_left, a_kind, characters, next_few, text_put}
 use Rattle.panel.proofs.panel_text.Goals as goal
 
@@ -14,9 +13,9 @@ put_shown-length-requires c =
     (a_kind _ output _ c.in-Plain.is read, characters _ output _ c.in-Plain.is read)
 
 pub overflow_cast-result : goal.overflow_cast-result
-overflow_cast-result c =     
+overflow_cast-result c =
     omega (arith, next_few _ _ _ c.in-Plain.is c.read_text-reading.ensures _ _ c.put_shown-length.ensures)
 
 pub returns : goal.returns
-returns c =     
+returns c =
     text_put _ _ _ c.in-Plain.is c.read_text-reading.ensures _ _ c.put_shown-length.ensures

@@ -1,8 +1,6 @@
 -- `panel::put_shown` meets its contract: before turn i the characters before the i-th are written, all but the kind.
 use borrow.Author.Rules.{rules}
-use Prim.Native.Nat.{◌-◌}
-use lib.ListN.{length}
-use Rattle.panel.proofs.Writing.{ShownTo, shown_none, shown_more, shown_all}
+use Rattle.panel.proofs.Writing.{shown_none, shown_more, shown_all}
 use Rattle.panel.proofs.put_shown.Goals as goal
 
 pub loop-i-init : goal.loop-i-init

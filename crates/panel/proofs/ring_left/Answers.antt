@@ -1,6 +1,5 @@
 -- `panel::ring_left` meets its contract.
 use mathlib.Core.Path.{sym, ap}
-use borrow.Author.Rules.{rules}
 use Rattle.panel.specs.Inside.{ring_leaving}
 use Rattle.panel.proofs.ring_left.Goals as goal
 

@@ -1,7 +1,6 @@
 -- `paper::all_zero` meets its contract: the sums passed are 0.
-use Prim.Native.Nat.{◌-◌}
 use borrow.Author.Rules.{rules}
-use Rattle.paper.proofs.Loops.{ZerosTo, zeros_none, zeros_again, zeros_all, zeros_not}
+use Rattle.paper.proofs.Loops.{zeros_none, zeros_again, zeros_all, zeros_not}
 use Rattle.paper.proofs.all_zero.Goals as goal
 
 pub loop-i-init : goal.loop-i-init

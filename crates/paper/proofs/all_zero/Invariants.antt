@@ -1,7 +1,6 @@
 -- `paper::all_zero` meets its contract: the sums passed are 0.
 use Prim.Native.Nat.{◌-◌}
-use borrow.Author.Rules.{rules}
-use Rattle.paper.proofs.Loops.{ZerosTo, zeros_none, zeros_again, zeros_all, zeros_not}
+use Rattle.paper.proofs.Loops.{ZerosTo}
 use Rattle.paper.proofs.all_zero.Given as goal
 
 abbrev pub invariant-loop-i : goal.invariant-loop-i

@@ -11,7 +11,7 @@ pub returns-then-not-located : goal.returns-then-not-located
 returns-then-not-located c = search (unlocated, not-true, rules)
 
 pub corrected-line-requires : goal.corrected-line-requires
-corrected-line-requires c =     
+corrected-line-requires c =
     record { n_bound = search rules; word = search rules; elements = values_elements _ _ _ c.solved-magnitudes.ensures; places = search (roots_places, not-false, rules) }
 
 pub returns : goal.returns

@@ -1,8 +1,6 @@
 -- `paper::circuit` meets its contract: the characters passed are added by Horner's rule.
 use Prim.Native.Nat.{◌-◌}
-use borrow.Author.Rules.{rules}
-use Rattle.code.proofs.Loops.{ValueTo, value_none}
-use Rattle.paper.proofs.Loops.{circuit_again, circuit_all}
+use Rattle.code.proofs.Loops.{ValueTo}
 use Rattle.paper.proofs.circuit.Given as goal
 
 abbrev pub invariant-loop-a : goal.invariant-loop-a

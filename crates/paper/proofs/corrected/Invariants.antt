@@ -1,7 +1,6 @@
 -- `paper::corrected` meets its contract: each magnitude is added at the address of its place.
 use Prim.Native.Nat.{◌-◌}
-use borrow.Author.Rules.{rules}
-use Rattle.paper.proofs.Correcting.{CorrectedTo, corrected_none, corrected_again, corrected_all}
+use Rattle.paper.proofs.Correcting.{CorrectedTo}
 use Rattle.paper.proofs.corrected.Given as goal
 
 abbrev pub invariant-loop-k : goal.invariant-loop-k

@@ -1,7 +1,6 @@
 -- `paper::first_changed` meets its contract: the addresses passed have the same characters.
-use Prim.Native.Nat.{◌-◌, ◌≤◌}
 use borrow.Author.Rules.{rules}
-use Rattle.paper.proofs.Correcting.{SameTo, same_none, same_again, first_here, first_nowhere}
+use Rattle.paper.proofs.Correcting.{same_none, same_again, first_here, first_nowhere}
 use Rattle.paper.proofs.first_changed.Goals as goal
 
 pub loop-a-init : goal.loop-a-init

@@ -1,7 +1,6 @@
 -- `paper::first_changed` meets its contract: the addresses passed have the same characters.
 use Prim.Native.Nat.{◌-◌, ◌≤◌}
-use borrow.Author.Rules.{rules}
-use Rattle.paper.proofs.Correcting.{SameTo, same_none, same_again, first_here, first_nowhere}
+use Rattle.paper.proofs.Correcting.{SameTo}
 use Rattle.paper.proofs.first_changed.Given as goal
 
 abbrev pub invariant-loop-a : goal.invariant-loop-a

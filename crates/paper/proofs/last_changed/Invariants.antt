@@ -1,7 +1,6 @@
 -- `paper::last_changed` meets its contract: the addresses passed, from the end, have the same characters.
 use Prim.Native.Nat.{◌≤◌}
-use borrow.Author.Rules.{rules}
-use Rattle.paper.proofs.Correcting.{SameFrom, from_none, from_again, last_here, last_nowhere}
+use Rattle.paper.proofs.Correcting.{SameFrom}
 use Rattle.paper.proofs.last_changed.Given as goal
 
 abbrev pub invariant-loop-a : goal.invariant-loop-a

@@ -1,8 +1,7 @@
 -- `paper::nearest` meets its contract: no line differs in fewer characters than are assumed.
-use Prim.Native.Nat.{◌+◌, ◌-◌, ◌≤◌}
 use native.Mathlib.Omega.{arith}
 use borrow.Author.Rules.{rules}
-use Rattle.paper.proofs.Reading.{MissedTo, missed_none, missed_more, nearest_found, nearest_none}
+use Rattle.paper.proofs.Reading.{missed_none, missed_more, nearest_found, nearest_none}
 use Rattle.paper.proofs.nearest.Goals as goal
 
 pub loop-n-init : goal.loop-n-init

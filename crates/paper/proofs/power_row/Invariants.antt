@@ -1,7 +1,6 @@
 -- `paper::power_row` meets its contract: the powers passed stand in the row, before the sum.
 use Prim.Native.Nat.{◌-◌}
-use borrow.Author.Rules.{rules}
-use Rattle.paper.proofs.Loops.{PowerTo, power_none, power_again, power_all}
+use Rattle.paper.proofs.Loops.{PowerTo}
 use Rattle.paper.proofs.power_row.Given as goal
 
 abbrev pub invariant-loop-k : goal.invariant-loop-k

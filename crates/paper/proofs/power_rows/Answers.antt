@@ -1,7 +1,6 @@
 -- `paper::power_rows` meets its contract: the rows passed are powers, each before its sum.
-use Prim.Native.Nat.{◌-◌}
 use borrow.Author.Rules.{rules}
-use Rattle.paper.proofs.Loops.{PowersTo, powers_none, powers_again, powers_all}
+use Rattle.paper.proofs.Loops.{powers_none, powers_again, powers_all}
 use Rattle.paper.proofs.power_rows.Goals as goal
 
 pub loop-i-init : goal.loop-i-init

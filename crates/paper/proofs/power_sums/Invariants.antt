@@ -1,7 +1,6 @@
 -- `paper::power_sums` meets its contract: the sums passed are those of the word and of the marks, and x is the point of the next.
 use Prim.Native.Nat.{◌-◌}
-use borrow.Author.Rules.{rules}
-use Rattle.paper.proofs.Loops.{SummedTo, summed_none, summed_again, summed_all}
+use Rattle.paper.proofs.Loops.{SummedTo}
 use Rattle.paper.proofs.power_sums.Given as goal
 
 abbrev pub invariant-loop-k : goal.invariant-loop-k

@@ -1,7 +1,4 @@
 -- `paper::raised` meets its contract: v is x to the power k.
-use mathlib.Core.Path.{◌≡◌}
-use Prim.Native.Nat.{◌-◌, ◌≤◌}
-use Rattle.field.specs.Field.{power}
 use borrow.Author.Rules.{rules}
 use Rattle.paper.proofs.Loops.{raised_none, raised_again, raised_all}
 use Rattle.paper.proofs.raised.Goals as goal

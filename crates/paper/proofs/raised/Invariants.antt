@@ -2,8 +2,6 @@
 use mathlib.Core.Path.{◌≡◌}
 use Prim.Native.Nat.{◌-◌, ◌≤◌}
 use Rattle.field.specs.Field.{power}
-use borrow.Author.Rules.{rules}
-use Rattle.paper.proofs.Loops.{raised_none, raised_again, raised_all}
 use Rattle.paper.proofs.raised.Given as goal
 
 abbrev pub invariant-loop-k : goal.invariant-loop-k

@@ -1,7 +1,6 @@
 -- `paper::sum_row` meets its contract: the sums passed stand in the row.
-use Prim.Native.Nat.{◌+◌, ◌-◌}
 use borrow.Author.Rules.{rules}
-use Rattle.paper.proofs.Loops.{RowTo, row_none, row_again, row_all}
+use Rattle.paper.proofs.Loops.{row_none, row_again, row_all}
 use Rattle.paper.proofs.sum_row.Goals as goal
 
 pub loop-k-init : goal.loop-k-init

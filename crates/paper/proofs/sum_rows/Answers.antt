@@ -1,7 +1,6 @@
 -- `paper::sum_rows` meets its contract: the rows passed are sums in a row.
-use Prim.Native.Nat.{◌-◌}
 use borrow.Author.Rules.{rules}
-use Rattle.paper.proofs.Loops.{RowsTo, rows_none, rows_again, rows_all}
+use Rattle.paper.proofs.Loops.{rows_none, rows_again, rows_all}
 use Rattle.paper.proofs.sum_rows.Goals as goal
 
 pub loop-i-init : goal.loop-i-init

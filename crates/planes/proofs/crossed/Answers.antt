@@ -1,5 +1,4 @@
 -- `planes::crossed` meets its contract: each of the two products is made bit by bit, and they are added.
-use borrow.Author.Rules.{rules}
 use Rattle.planes.proofs.Loops.{multiplied, crossed_planes}
 use Rattle.planes.proofs.crossed.Goals as goal
 

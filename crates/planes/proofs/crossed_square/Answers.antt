@@ -1,5 +1,4 @@
 -- `planes::crossed_square` meets its contract: the product is made bit by bit, and the square is added.
-use borrow.Author.Rules.{rules}
 use Rattle.planes.proofs.Loops.{multiplied, crossed_planes}
 use Rattle.planes.proofs.crossed_square.Goals as goal
 

@@ -1,6 +1,6 @@
 -- `planes::roots` meets its contract: by Horner's rule, from the highest coefficient down, at every place.
 use borrow.Author.Rules.{rules}
-use Rattle.planes.proofs.Loops.{TakenFrom, taken_last, taken_again, taken_all}
+use Rattle.planes.proofs.Loops.{taken_last, taken_again, taken_all}
 use Rattle.planes.proofs.roots.Goals as goal
 
 pub loop-k-init : goal.loop-k-init

@@ -1,6 +1,5 @@
 -- `planes::roots` meets its contract: by Horner's rule, from the highest coefficient down, at every place.
-use borrow.Author.Rules.{rules}
-use Rattle.planes.proofs.Loops.{TakenFrom, taken_last, taken_again, taken_all}
+use Rattle.planes.proofs.Loops.{TakenFrom}
 use Rattle.planes.proofs.roots.Given as goal
 
 abbrev pub invariant-loop-k : goal.invariant-loop-k

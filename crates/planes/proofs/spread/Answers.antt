@@ -1,5 +1,4 @@
 -- `planes::spread` meets its contract: the bit times 63 ones.
-use borrow.Author.Rules.{rules}
 use Rattle.planes.proofs.Loops.{spread_bit}
 use Rattle.planes.proofs.spread.Goals as goal
 

@@ -1,5 +1,4 @@
 -- `planes::times_place` meets its contract: the constants hold the bits of the powers of α, which a computed test shows.
-use borrow.Author.Rules.{rules}
 use Rattle.planes.proofs.Loops.{place_planes}
 use Rattle.field.specs.Field.{sum, times_x, shifted, product, power}
 use Rattle.planes.proofs.times_place.Goals as goal

@@ -1,11 +1,10 @@
 -- `points::block` meets its contract: one more character in front at each table.
 use mathlib.Core.Path.{refl}
-use borrow.Author.Rules.{rules}
 use Rattle.points.proofs.Steps.{more_terms, last_terms}
 use Rattle.points.proofs.block.Goals as goal
 
 pub returns : goal.returns
-returns c =     let b1 = c in
+returns c = let b1 = c in
     let b2 = b1.before in
     let b3 = b2.before in
     let b4 = b3.before in

@@ -1,5 +1,4 @@
 -- `points::part_values` meets its contract: the characters of the part are read one by one.
-use borrow.Author.Rules.{rules}
 use Rattle.points.proofs.Steps.{run_read}
 use Rattle.points.proofs.part_values.Goals as goal
 

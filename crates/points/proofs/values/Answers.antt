@@ -1,7 +1,6 @@
 -- `points::values` meets its contract: the loop keeps the values of the parts passed, and three are joined.
-use Prim.Native.Nat.{◌-◌}
 use borrow.Author.Rules.{rules}
-use Rattle.points.proofs.Steps.{PartsTo, parts_none, parts_again, other_length, values_joined}
+use Rattle.points.proofs.Steps.{parts_none, parts_again, other_length, values_joined}
 use Rattle.points.proofs.values.Goals as goal
 
 pub returns-then-word-ne63 : goal.returns-then-word-ne63

@@ -1,5 +1,4 @@
 -- `regular::four` meets its contract: one step of the elimination, and what is told of the rest.
-use borrow.Author.Rules.{rules}
 use mathlib.Core.Path.{sym, ap₂, ◌∙◌}
 use Rattle.field.specs.Field.{sum, product}
 use Rattle.planes.proofs.Bits.{or_between}
@@ -9,15 +8,15 @@ use Rattle.regular.proofs.four.Goals as goal
 
 pub returns : goal.returns
 unfolding Pivots
-returns c =     record {
-      pivots = λ l b z m h. (
-        (λ e. c.zeros.ensures.other l b (left_none (or_between c.zeros.result c.three-rest.result l) z) (sym h.0.0 ∙ e)),
-        c.three-rest.ensures.pivots l b (right_none (or_between c.zeros.result c.three-rest.result l) z) (reduced m)
-            (((ap₂ sum (ap₂ product h.0.0 h.1.0.0) (ap₂ product h.0.1.0 h.0.1.0) ∙ sym (c.crossed_square-r00.ensures.at l))
-            next (ap₂ sum (ap₂ product h.0.0 h.1.0.1.0) (ap₂ product h.0.1.0 h.0.1.1.0) ∙ sym (c.crossed-r01.ensures.at l))
-            next (ap₂ sum (ap₂ product h.0.0 h.1.0.1.1.0) (ap₂ product h.0.1.0 h.0.1.1.1.0) ∙ sym (c.crossed-r02.ensures.at l)) next tt)
-            next ((ap₂ sum (ap₂ product h.0.0 h.1.1.0.0) (ap₂ product h.0.1.1.0 h.0.1.1.0) ∙ sym (c.crossed_square-r11.ensures.at l))
-            next (ap₂ sum (ap₂ product h.0.0 h.1.1.0.1.0) (ap₂ product h.0.1.1.0 h.0.1.1.1.0) ∙ sym (c.crossed-r12.ensures.at l)) next tt)
-            next ((ap₂ sum (ap₂ product h.0.0 h.1.1.1.0.0) (ap₂ product h.0.1.1.1.0 h.0.1.1.1.0) ∙ sym (c.crossed_square-r22.ensures.at l)) next tt) next tt),
-      );
-    }
+returns c = record {
+  pivots = λ l b z m h. (
+    (λ e. c.zeros.ensures.other l b (left_none (or_between c.zeros.result c.three-rest.result l) z) (sym h.0.0 ∙ e)),
+    c.three-rest.ensures.pivots l b (right_none (or_between c.zeros.result c.three-rest.result l) z) (reduced m)
+        (((ap₂ sum (ap₂ product h.0.0 h.1.0.0) (ap₂ product h.0.1.0 h.0.1.0) ∙ sym (c.crossed_square-r00.ensures.at l))
+        next (ap₂ sum (ap₂ product h.0.0 h.1.0.1.0) (ap₂ product h.0.1.0 h.0.1.1.0) ∙ sym (c.crossed-r01.ensures.at l))
+        next (ap₂ sum (ap₂ product h.0.0 h.1.0.1.1.0) (ap₂ product h.0.1.0 h.0.1.1.1.0) ∙ sym (c.crossed-r02.ensures.at l)) next tt)
+        next ((ap₂ sum (ap₂ product h.0.0 h.1.1.0.0) (ap₂ product h.0.1.1.0 h.0.1.1.0) ∙ sym (c.crossed_square-r11.ensures.at l))
+        next (ap₂ sum (ap₂ product h.0.0 h.1.1.0.1.0) (ap₂ product h.0.1.1.0 h.0.1.1.1.0) ∙ sym (c.crossed-r12.ensures.at l)) next tt)
+        next ((ap₂ sum (ap₂ product h.0.0 h.1.1.1.0.0) (ap₂ product h.0.1.1.1.0 h.0.1.1.1.0) ∙ sym (c.crossed_square-r22.ensures.at l)) next tt) next tt),
+  );
+}

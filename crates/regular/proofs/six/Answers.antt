@@ -1,5 +1,4 @@
 -- `regular::six` meets its contract: one step of the elimination, and what is told of the rest.
-use borrow.Author.Rules.{rules}
 use mathlib.Core.Path.{sym, ap₂, ◌∙◌}
 use Prim.Native.Nat.{◌+◌}
 use Rattle.field.specs.Field.{sum, product}
@@ -10,24 +9,24 @@ use Rattle.regular.proofs.six.Goals as goal
 
 pub returns : goal.returns
 unfolding Pivots
-returns c =     record {
-      pivots = λ l b z m h. (
-        (λ e. c.zeros.ensures.other l b (left_none (or_between c.zeros.result c.five-rest.result l) z) (sym h.0 ∙ e)),
-        c.five-rest.ensures.pivots l b (right_none (or_between c.zeros.result c.five-rest.result l) z) (reduced (λ i j. m (i + j)))
-            (((ap₂ sum (ap₂ product h.0 h.1.1.0) (ap₂ product h.1.0 h.1.0) ∙ sym (c.crossed_square-r00.ensures.at l))
-            next (ap₂ sum (ap₂ product h.0 h.1.1.1.0) (ap₂ product h.1.0 h.1.1.0) ∙ sym (c.crossed-r01.ensures.at l))
-            next (ap₂ sum (ap₂ product h.0 h.1.1.1.1.0) (ap₂ product h.1.0 h.1.1.1.0) ∙ sym (c.crossed-r02.ensures.at l))
-            next (ap₂ sum (ap₂ product h.0 h.1.1.1.1.1.0) (ap₂ product h.1.0 h.1.1.1.1.0) ∙ sym (c.crossed-r03.ensures.at l))
-            next (ap₂ sum (ap₂ product h.0 h.1.1.1.1.1.1.0) (ap₂ product h.1.0 h.1.1.1.1.1.0) ∙ sym (c.crossed-r04.ensures.at l)) next tt)
-            next ((ap₂ sum (ap₂ product h.0 h.1.1.1.1.0) (ap₂ product h.1.1.0 h.1.1.0) ∙ sym (c.crossed_square-r11.ensures.at l))
-            next (ap₂ sum (ap₂ product h.0 h.1.1.1.1.1.0) (ap₂ product h.1.1.0 h.1.1.1.0) ∙ sym (c.crossed-r12.ensures.at l))
-            next (ap₂ sum (ap₂ product h.0 h.1.1.1.1.1.1.0) (ap₂ product h.1.1.0 h.1.1.1.1.0) ∙ sym (c.crossed-r13.ensures.at l))
-            next (ap₂ sum (ap₂ product h.0 h.1.1.1.1.1.1.1.0) (ap₂ product h.1.1.0 h.1.1.1.1.1.0) ∙ sym (c.crossed-r14.ensures.at l)) next tt)
-            next ((ap₂ sum (ap₂ product h.0 h.1.1.1.1.1.1.0) (ap₂ product h.1.1.1.0 h.1.1.1.0) ∙ sym (c.crossed_square-r22.ensures.at l))
-            next (ap₂ sum (ap₂ product h.0 h.1.1.1.1.1.1.1.0) (ap₂ product h.1.1.1.0 h.1.1.1.1.0) ∙ sym (c.crossed-r23.ensures.at l))
-            next (ap₂ sum (ap₂ product h.0 h.1.1.1.1.1.1.1.1.0) (ap₂ product h.1.1.1.0 h.1.1.1.1.1.0) ∙ sym (c.crossed-r24.ensures.at l)) next tt)
-            next ((ap₂ sum (ap₂ product h.0 h.1.1.1.1.1.1.1.1.0) (ap₂ product h.1.1.1.1.0 h.1.1.1.1.0) ∙ sym (c.crossed_square-r33.ensures.at l))
-            next (ap₂ sum (ap₂ product h.0 h.1.1.1.1.1.1.1.1.1.0) (ap₂ product h.1.1.1.1.0 h.1.1.1.1.1.0) ∙ sym (c.crossed-r34.ensures.at l)) next tt)
-            next ((ap₂ sum (ap₂ product h.0 h.1.1.1.1.1.1.1.1.1.1.0) (ap₂ product h.1.1.1.1.1.0 h.1.1.1.1.1.0) ∙ sym (c.crossed_square-r44.ensures.at l)) next tt) next tt),
-      );
-    }
+returns c = record {
+  pivots = λ l b z m h. (
+    (λ e. c.zeros.ensures.other l b (left_none (or_between c.zeros.result c.five-rest.result l) z) (sym h.0 ∙ e)),
+    c.five-rest.ensures.pivots l b (right_none (or_between c.zeros.result c.five-rest.result l) z) (reduced (λ i j. m (i + j)))
+        (((ap₂ sum (ap₂ product h.0 h.1.1.0) (ap₂ product h.1.0 h.1.0) ∙ sym (c.crossed_square-r00.ensures.at l))
+        next (ap₂ sum (ap₂ product h.0 h.1.1.1.0) (ap₂ product h.1.0 h.1.1.0) ∙ sym (c.crossed-r01.ensures.at l))
+        next (ap₂ sum (ap₂ product h.0 h.1.1.1.1.0) (ap₂ product h.1.0 h.1.1.1.0) ∙ sym (c.crossed-r02.ensures.at l))
+        next (ap₂ sum (ap₂ product h.0 h.1.1.1.1.1.0) (ap₂ product h.1.0 h.1.1.1.1.0) ∙ sym (c.crossed-r03.ensures.at l))
+        next (ap₂ sum (ap₂ product h.0 h.1.1.1.1.1.1.0) (ap₂ product h.1.0 h.1.1.1.1.1.0) ∙ sym (c.crossed-r04.ensures.at l)) next tt)
+        next ((ap₂ sum (ap₂ product h.0 h.1.1.1.1.0) (ap₂ product h.1.1.0 h.1.1.0) ∙ sym (c.crossed_square-r11.ensures.at l))
+        next (ap₂ sum (ap₂ product h.0 h.1.1.1.1.1.0) (ap₂ product h.1.1.0 h.1.1.1.0) ∙ sym (c.crossed-r12.ensures.at l))
+        next (ap₂ sum (ap₂ product h.0 h.1.1.1.1.1.1.0) (ap₂ product h.1.1.0 h.1.1.1.1.0) ∙ sym (c.crossed-r13.ensures.at l))
+        next (ap₂ sum (ap₂ product h.0 h.1.1.1.1.1.1.1.0) (ap₂ product h.1.1.0 h.1.1.1.1.1.0) ∙ sym (c.crossed-r14.ensures.at l)) next tt)
+        next ((ap₂ sum (ap₂ product h.0 h.1.1.1.1.1.1.0) (ap₂ product h.1.1.1.0 h.1.1.1.0) ∙ sym (c.crossed_square-r22.ensures.at l))
+        next (ap₂ sum (ap₂ product h.0 h.1.1.1.1.1.1.1.0) (ap₂ product h.1.1.1.0 h.1.1.1.1.0) ∙ sym (c.crossed-r23.ensures.at l))
+        next (ap₂ sum (ap₂ product h.0 h.1.1.1.1.1.1.1.1.0) (ap₂ product h.1.1.1.0 h.1.1.1.1.1.0) ∙ sym (c.crossed-r24.ensures.at l)) next tt)
+        next ((ap₂ sum (ap₂ product h.0 h.1.1.1.1.1.1.1.1.0) (ap₂ product h.1.1.1.1.0 h.1.1.1.1.0) ∙ sym (c.crossed_square-r33.ensures.at l))
+        next (ap₂ sum (ap₂ product h.0 h.1.1.1.1.1.1.1.1.1.0) (ap₂ product h.1.1.1.1.0 h.1.1.1.1.1.0) ∙ sym (c.crossed-r34.ensures.at l)) next tt)
+        next ((ap₂ sum (ap₂ product h.0 h.1.1.1.1.1.1.1.1.1.1.0) (ap₂ product h.1.1.1.1.1.0 h.1.1.1.1.1.0) ∙ sym (c.crossed_square-r44.ensures.at l)) next tt) next tt),
+  );
+}

@@ -1,8 +1,7 @@
 -- `regular::sum_planes` meets its contract: the sum everywhere, and the words added to it as planes.
-use borrow.Author.Rules.{rules}
 use mathlib.Core.Path.{refl}
 use Rattle.regular.proofs.Loops.{sum_planes}
 use Rattle.regular.proofs.sum_planes.Goals as goal
 
 pub returns : goal.returns
-returns c =     sum_planes _ _ _ _ _ _ refl refl refl refl refl refl c.everywhere.ensures c.plus.ensures
+returns c = sum_planes _ _ _ _ _ _ refl refl refl refl refl refl c.everywhere.ensures c.plus.ensures

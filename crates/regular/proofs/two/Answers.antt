@@ -1,5 +1,4 @@
 -- `regular::two` meets its contract: one step of the elimination, and what is told of the rest.
-use borrow.Author.Rules.{rules}
 use mathlib.Core.Path.{sym, ap₂, ◌∙◌}
 use Rattle.field.specs.Field.{sum, product}
 use Rattle.planes.proofs.Bits.{or_between}
@@ -9,6 +8,6 @@ use Rattle.regular.proofs.two.Goals as goal
 
 pub returns : goal.returns
 unfolding Pivots
-returns c =     record {
-      pivots = λ l b z m h. ((λ e. c.zeros.ensures.other l b (left_none (or_between c.zeros.result c.zeros-rest.result l) z) (sym h.0.0 ∙ e)), ((λ e. c.zeros-rest.ensures.other l b (right_none (or_between c.zeros.result c.zeros-rest.result l) z) (sym (ap₂ sum (ap₂ product h.0.0 h.1.0.0) (ap₂ product h.0.1.0 h.0.1.0) ∙ sym (c.crossed_square-r00.ensures.at l)) ∙ e)), tt));
-    }
+returns c = record {
+  pivots = λ l b z m h. ((λ e. c.zeros.ensures.other l b (left_none (or_between c.zeros.result c.zeros-rest.result l) z) (sym h.0.0 ∙ e)), ((λ e. c.zeros-rest.ensures.other l b (right_none (or_between c.zeros.result c.zeros-rest.result l) z) (sym (ap₂ sum (ap₂ product h.0.0 h.1.0.0) (ap₂ product h.0.1.0 h.0.1.0) ∙ sym (c.crossed_square-r00.ensures.at l)) ∙ e)), tt));
+}

@@ -38,5 +38,5 @@ pub sum_planes-s10-requires : goal.sum_planes-s10-requires
 sum_planes-s10-requires c = search (arith, rules)
 
 pub returns : goal.returns
-returns c =     no_errors_where _ _ _ _ _ _ _ _ _ _ _ _ _ _ c.sum_planes-s0.ensures c.sum_planes-s1.ensures c.sum_planes-s2.ensures c.sum_planes-s3.ensures c.sum_planes-s4.ensures c.sum_planes-s5.ensures c.sum_planes-s6.ensures c.sum_planes-s7.ensures c.sum_planes-s8.ensures c.sum_planes-s9.ensures c.sum_planes-s10.ensures
+returns c = no_errors_where _ _ _ _ _ _ _ _ _ _ _ _ _ _ c.sum_planes-s0.ensures c.sum_planes-s1.ensures c.sum_planes-s2.ensures c.sum_planes-s3.ensures c.sum_planes-s4.ensures c.sum_planes-s5.ensures c.sum_planes-s6.ensures c.sum_planes-s7.ensures c.sum_planes-s8.ensures c.sum_planes-s9.ensures c.sum_planes-s10.ensures
     c.six.ensures

@@ -1,8 +1,6 @@
 -- put_section puts the lines of a section. After i items, whatever lines complete the rest complete the section; the measure is the items left.
-use borrow.Author.Rules.{rules}
 use Prim.Native.Nat.{◌-◌}
-use borrow.Author.Tests.{not-true, not-false}
-use Rattle.report.proofs.Loops.{ItemsTo, section_missing, items_none, items_all, items_cut, items_more}
+use Rattle.report.proofs.Loops.{ItemsTo}
 use Rattle.report.proofs.put_section.Given as goal
 
 abbrev pub invariant-loop-i : goal.invariant-loop-i

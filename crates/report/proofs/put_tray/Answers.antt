@@ -1,10 +1,10 @@
 -- put_tray puts all lines but the header. After j sections, whatever completes the rest completes the tray; the measure is the sections left.
 use borrow.Author.Rules.{rules}
-use Prim.Native.Nat.{◌-◌, ◌<◌}
+use Prim.Native.Nat.{◌<◌}
 use lib.ListN.{length}
 use native.Mathlib.Omega.{arith}
 use mathlib.Core.Path.{refl}
-use Rattle.report.proofs.Loops.{SectionsTo, sections_none, tray_empty, tray_cut, sections_more, tray_more, tray_end}
+use Rattle.report.proofs.Loops.{sections_none, tray_empty, tray_cut, sections_more, tray_more, tray_end}
 use Rattle.report.proofs.put_tray.Goals as goal
 
 pub returns-then-file-eq0 : goal.returns-then-file-eq0
@@ -20,7 +20,7 @@ pub loop-j-preserved : goal.loop-j-preserved
 loop-j-preserved c = search (sections_more, rules)
 
 pub returns-then-at-file : goal.returns-then-at-file
-returns-then-at-file c =     let h : c.loop-j.at < length c.args.file.now = omega arith in
+returns-then-at-file c = let h : c.loop-j.at < length c.args.file.now = omega arith in
     search (tray_more, rules)
 
 pub returns : goal.returns

@@ -1,10 +1,6 @@
 -- put_tray puts all lines but the header. After j sections, whatever completes the rest completes the tray; the measure is the sections left.
-use borrow.Author.Rules.{rules}
-use Prim.Native.Nat.{◌-◌, ◌<◌}
-use lib.ListN.{length}
-use native.Mathlib.Omega.{arith}
-use mathlib.Core.Path.{refl}
-use Rattle.report.proofs.Loops.{SectionsTo, sections_none, tray_empty, tray_cut, sections_more, tray_more, tray_end}
+use Prim.Native.Nat.{◌-◌}
+use Rattle.report.proofs.Loops.{SectionsTo}
 use Rattle.report.proofs.put_tray.Given as goal
 
 abbrev pub invariant-loop-j : goal.invariant-loop-j

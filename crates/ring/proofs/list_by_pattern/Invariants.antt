@@ -1,10 +1,8 @@
 -- `ring::list_by_pattern` meets its contract: the loop keeps that of the starts below this one those whose marks leave few enough errors are listed.
-use borrow.Author.Rules.{rules}
 use mathlib.Core.Path.{◌≡◌}
-use mathlib.Core.Logic.{⊎_elim}
 use Prim.Native.Nat.{◌+◌, ◌-◌, ◌≤◌}
 use Rattle.ring.specs.Inside.{AllGains, LightAt}
-use Rattle.ring.proofs.Loops.{ListedTo, light_here, heavy_here, listed_none, listed_one, listed_not, listed_all}
+use Rattle.ring.proofs.Loops.{ListedTo}
 use Rattle.ring.proofs.list_by_pattern.Given as goal
 
 abbrev pub invariant-loop-start : goal.invariant-loop-start

@@ -1,12 +1,6 @@
 -- `ring::list_by_sums` meets its contract: the loop keeps that of the starts below this one those for which errors have the sums are listed, so that whatever lists the rest completes the list.
 use borrow.Author.Rules.{rules}
-use mathlib.Core.Logic.{⊎_elim}
-use Prim.Native.Nat.{◌-◌}
-use Rattle.sums.specs.Held.{eleven}
-use Rattle.ring.specs.Inside.{ErrorsFitAt}
-use Rattle.ring.specs.Marks.{MarksAtAll}
-use Rattle.ring.specs.Filter.{Decides}
-use Rattle.ring.proofs.Loops.{ListedTo, no_errors_here, errors_here, none_here, listed_none, listed_one, listed_not, listed_all}
+use Rattle.ring.proofs.Loops.{no_errors_here, errors_here, none_here, listed_none, listed_one, listed_not, listed_all}
 use Rattle.ring.proofs.list_by_sums.Goals as goal
 use Rattle.ring.proofs.list_by_sums.Goals.{else-listed, then-listed}
 

@@ -1,6 +1,5 @@
 -- `ring::place_of` meets its contract: each return is one of the two directions.
 use native.Mathlib.Omega.{arith}
-use borrow.Author.Rules.{rules}
 use Rattle.ring.proofs.Loops.{place_forward, place_backward}
 use Rattle.ring.proofs.place_of.Goals as goal
 

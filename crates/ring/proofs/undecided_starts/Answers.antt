@@ -1,5 +1,4 @@
 -- `ring::undecided_starts` meets its contract: the filter is asked once for the forward starts, and once for the backward ones.
-use borrow.Author.Rules.{rules}
 use Rattle.ring.proofs.Filtering.{decides}
 use Rattle.ring.proofs.undecided_starts.Goals as goal
 

@@ -1,9 +1,8 @@
 -- `ring::word_at` meets its contract: the loop keeps that the first a characters are those of the word at the start.
-use borrow.Author.Rules.{rules}
 use mathlib.Core.Path.{◌≡◌}
 use Prim.Native.Nat.{◌<◌, ◌-◌}
 use lib.ListN.{length}
-use Rattle.ring.proofs.Loops.{PlacedTo, placed_start, place_inside, placed_more, placed_all}
+use Rattle.ring.proofs.Loops.{PlacedTo}
 use Rattle.ring.proofs.word_at.Given as goal
 
 abbrev pub invariant-loop-a : goal.invariant-loop-a

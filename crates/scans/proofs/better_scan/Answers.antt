@@ -13,6 +13,6 @@ pub returns-in-Second : goal.returns-in-Second
 returns-in-Second c = search (handed_second, rules)
 
 pub returns-in-Neither : goal.returns-in-Neither
-returns-in-Neither c =     let p : ℕ × ℕ = c.args.first.ref_ptr in
+returns-in-Neither c = let p : ℕ × ℕ = c.args.first.ref_ptr in
     let starts = ap {B = ℕ × ℕ} (λ (o : ℕ). (p.0, o)) (zero-add p.1) in
     search (handed_neither, starts, rules)

@@ -1,7 +1,6 @@
 -- `sheet::column_of` meets its contract: the entries passed are those of the column.
-use borrow.Author.Rules.{rules}
 use Prim.Native.Nat.{◌-◌}
-use Rattle.sheet.proofs.Loops.{TakenTo, taken_start, taken_again, taken_all}
+use Rattle.sheet.proofs.Loops.{TakenTo}
 use Rattle.sheet.proofs.column_of.Given as goal
 
 abbrev pub invariant-loop-i : goal.invariant-loop-i

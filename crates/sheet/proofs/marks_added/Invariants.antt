@@ -1,7 +1,6 @@
 -- `sheet::marks_added` meets its contract: the lines passed have their marks added.
-use borrow.Author.Rules.{rules}
 use Prim.Native.Nat.{◌-◌}
-use Rattle.sheet.proofs.Loops.{AddedTo, added_start, added_again, added_all}
+use Rattle.sheet.proofs.Loops.{AddedTo}
 use Rattle.sheet.proofs.marks_added.Given as goal
 
 abbrev pub invariant-loop-i : goal.invariant-loop-i

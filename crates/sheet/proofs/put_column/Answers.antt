@@ -1,7 +1,6 @@
 -- `sheet::put_column` meets its contract: the entries passed are written, and no others.
 use borrow.Author.Rules.{rules}
-use Prim.Native.Nat.{◌-◌}
-use Rattle.sheet.proofs.Loops.{WrittenTo, written_start, written_again, written_all, written_nowhere, written_beyond}
+use Rattle.sheet.proofs.Loops.{written_start, written_again, written_all, written_nowhere, written_beyond}
 use Rattle.sheet.proofs.put_column.Goals as goal
 
 pub returns-then-s-ne-SHEET : goal.returns-then-s-ne-SHEET

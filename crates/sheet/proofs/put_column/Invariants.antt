@@ -1,7 +1,6 @@
 -- `sheet::put_column` meets its contract: the entries passed are written, and no others.
-use borrow.Author.Rules.{rules}
 use Prim.Native.Nat.{◌-◌}
-use Rattle.sheet.proofs.Loops.{WrittenTo, written_start, written_again, written_all, written_nowhere, written_beyond}
+use Rattle.sheet.proofs.Loops.{WrittenTo}
 use Rattle.sheet.proofs.put_column.Given as goal
 
 abbrev pub invariant-loop-i : goal.invariant-loop-i

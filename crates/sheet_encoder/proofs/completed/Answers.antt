@@ -1,7 +1,6 @@
 -- `sheet_encoder::completed` meets its contract: the columns passed are completed, and the others are as they were.
 use borrow.Author.Rules.{rules}
-use Prim.Native.Nat.{◌-◌}
-use Rattle.sheet_encoder.proofs.Loops.{CompletedTo, completed_none, column_low, completed_again, completed_all}
+use Rattle.sheet_encoder.proofs.Loops.{completed_none, column_low, completed_again, completed_all}
 use Rattle.sheet_encoder.proofs.completed.Goals as goal
 
 pub loop-a-init : goal.loop-a-init

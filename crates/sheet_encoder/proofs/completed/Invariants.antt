@@ -1,7 +1,6 @@
 -- `sheet_encoder::completed` meets its contract: the columns passed are completed, and the others are as they were.
-use borrow.Author.Rules.{rules}
 use Prim.Native.Nat.{◌-◌}
-use Rattle.sheet_encoder.proofs.Loops.{CompletedTo, completed_none, column_low, completed_again, completed_all}
+use Rattle.sheet_encoder.proofs.Loops.{CompletedTo}
 use Rattle.sheet_encoder.proofs.completed.Given as goal
 
 abbrev pub invariant-loop-a : goal.invariant-loop-a

@@ -21,7 +21,7 @@ pub returns-then-not-possible : goal.returns-then-not-possible
 returns-then-not-possible c = refused _ _ _ 4 (search verdicts depth 9)
 
 pub first_lines-requires : goal.first_lines-requires
-first_lines-requires c =     encodable _ _ (search rules) (search rules) (told_yes c.all_low.ensures c.if-not-all_low.false-raw)
+first_lines-requires c = encodable _ _ (search rules) (search rules) (told_yes c.all_low.ensures c.if-not-all_low.false-raw)
     (told_yes c.possible.ensures c.if-not-possible.false-raw)
 
 pub completed-requires : goal.completed-requires

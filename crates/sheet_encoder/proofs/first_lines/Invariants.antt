@@ -1,7 +1,6 @@
 -- `sheet_encoder::first_lines` meets its contract: the lines passed have their texts and numbers.
-use borrow.Author.Rules.{rules}
 use Prim.Native.Nat.{◌-◌}
-use Rattle.sheet_encoder.proofs.Loops.{LinesTo, lines_none, lines_again, lines_all}
+use Rattle.sheet_encoder.proofs.Loops.{LinesTo}
 use Rattle.sheet_encoder.proofs.first_lines.Given as goal
 
 abbrev pub invariant-loop-i : goal.invariant-loop-i

@@ -1,8 +1,6 @@
 -- `sheet_encoder::possible` meets its contract: the numbers passed are at most 4095.
-use Prim.Native.Nat.{◌-◌}
 use borrow.Author.Rules.{rules}
-use lib.ListN.{length}
-use Rattle.sheet_encoder.proofs.Loops.{PossibleTo, possible_none, possible_again, possible_all, possible_not}
+use Rattle.sheet_encoder.proofs.Loops.{possible_none, possible_again, possible_all, possible_not}
 use Rattle.sheet_encoder.proofs.possible.Goals as goal
 
 pub loop-i-init : goal.loop-i-init

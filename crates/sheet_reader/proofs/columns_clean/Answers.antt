@@ -1,7 +1,6 @@
 -- `sheet_reader::columns_clean` meets its contract: the columns passed are clean words, and one that is not tells.
 use borrow.Author.Rules.{rules}
-use Prim.Native.Nat.{◌-◌}
-use Rattle.sheet_reader.proofs.Tests.{ColumnsCleanTo, columns_start, column_word, columns_again, column_unclean, columns_are}
+use Rattle.sheet_reader.proofs.Tests.{columns_start, column_word, columns_again, column_unclean, columns_are}
 use Rattle.sheet_reader.proofs.columns_clean.Goals as goal
 
 pub loop-a-init : goal.loop-a-init

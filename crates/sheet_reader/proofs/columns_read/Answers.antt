@@ -1,8 +1,6 @@
 -- `sheet_reader::columns_read` meets its contract: each turn reads one column more, or leaves it.
 use borrow.Author.Rules.{rules}
-use Prim.Native.Nat.{◌-◌}
-use mathlib.Core.Logic.{⊎_elim}
-use Rattle.sheet_reader.proofs.Loops.{ColumnsTo, columns_none, column_left, column_put, columns_all}
+use Rattle.sheet_reader.proofs.Loops.{columns_none, column_left, column_put, columns_all}
 use Rattle.sheet_reader.proofs.columns_read.Goals as goal
 use Rattle.sheet_reader.proofs.columns_read.Goals.{then-found, else-found}
 
@@ -12,10 +10,10 @@ loop-a-init c = search (columns_none, rules)
 pub loop-a-preserved : goal.loop-a-preserved
 loop-a-preserved c =
     elim c.if-found.branch [
-      then-found w ↦
+      | then-found w ↦
           column_put _ _ _ _ c.clean_within-found.result c.loop-a.invariant (search rules) (search rules) c.clean_within-found.ensures _ _ w.if-found.true
           w.put_column.ensures w.s-is
-    | else-found w ↦ search (column_left, rules)
+      | else-found w ↦ search (column_left, rules)
     ]
 
 pub returns : goal.returns

@@ -1,8 +1,6 @@
 -- `sheet_reader::columns_read` meets its contract: each turn reads one column more, or leaves it.
-use borrow.Author.Rules.{rules}
 use Prim.Native.Nat.{◌-◌}
-use mathlib.Core.Logic.{⊎_elim}
-use Rattle.sheet_reader.proofs.Loops.{ColumnsTo, columns_none, column_left, column_put, columns_all}
+use Rattle.sheet_reader.proofs.Loops.{ColumnsTo}
 use Rattle.sheet_reader.proofs.columns_read.Given as goal
 
 abbrev pub invariant-loop-a : goal.invariant-loop-a

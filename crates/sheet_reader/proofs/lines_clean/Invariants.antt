@@ -1,7 +1,6 @@
 -- `sheet_reader::lines_clean` meets its contract: the lines passed are clean words, and one that is not tells.
-use borrow.Author.Rules.{rules}
 use Prim.Native.Nat.{◌-◌}
-use Rattle.sheet_reader.proofs.Tests.{LinesCleanTo, clean_start, line_word, clean_again, line_unclean, lines_are}
+use Rattle.sheet_reader.proofs.Tests.{LinesCleanTo}
 use Rattle.sheet_reader.proofs.lines_clean.Given as goal
 
 abbrev pub invariant-loop-i : goal.invariant-loop-i

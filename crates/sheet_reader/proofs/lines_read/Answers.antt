@@ -3,8 +3,7 @@ use borrow.Author.Rules.{rules}
 use mathlib.Core.Path.{◌≡◌}
 use Prim.Native.Nat.{ℕ, ◌+◌, ◌-◌, ◌*◌}
 use native.Mathlib.Omega.{arith}
-use mathlib.Core.Logic.{⊎_elim}
-use Rattle.sheet_reader.proofs.Loops.{LinesTo, lines_none, line_left, line_put, lines_all}
+use Rattle.sheet_reader.proofs.Loops.{lines_none, line_left, line_put, lines_all}
 use Rattle.sheet_reader.proofs.lines_read.Goals as goal
 use Rattle.sheet_reader.proofs.lines_read.Goals.{then-found, else-found}
 
@@ -16,10 +15,10 @@ loop-i-preserved c =
     let i : ℕ = c.loop-i.i in
     let width : i * 63 + 63 - i * 63 ≡ 63 = omega arith in
     elim c.if-found.branch [
-      then-found w ↦
+      | then-found w ↦
           line_put _ _ _ _ c.clean_within-found.result c.loop-i.invariant c.loop-i-test.true width c.clean_within-found.ensures _ _ w.if-found.true
           w.put.ensures w.s-is
-    | else-found w ↦ search (line_left, rules)
+      | else-found w ↦ search (line_left, rules)
     ]
 
 pub returns : goal.returns

@@ -1,10 +1,6 @@
 -- `sheet_reader::lines_read` meets its contract: each turn reads one line more, or leaves it.
-use borrow.Author.Rules.{rules}
-use mathlib.Core.Path.{◌≡◌}
-use Prim.Native.Nat.{ℕ, ◌+◌, ◌-◌, ◌*◌}
-use native.Mathlib.Omega.{arith}
-use mathlib.Core.Logic.{⊎_elim}
-use Rattle.sheet_reader.proofs.Loops.{LinesTo, lines_none, line_left, line_put, lines_all}
+use Prim.Native.Nat.{◌-◌}
+use Rattle.sheet_reader.proofs.Loops.{LinesTo}
 use Rattle.sheet_reader.proofs.lines_read.Given as goal
 
 abbrev pub invariant-loop-i : goal.invariant-loop-i

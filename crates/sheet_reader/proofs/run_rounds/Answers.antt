@@ -1,7 +1,6 @@
 -- `sheet_reader::run_rounds` meets its contract: each turn runs one round more, unless the sheet is proper or the round leaves it as it was.
 use borrow.Author.Rules.{rules}
-use Prim.Native.Nat.{◌-◌}
-use Rattle.sheet_reader.proofs.Running.{RunTo, run_start, run_proper, run_same, run_more, run_end}
+use Rattle.sheet_reader.proofs.Running.{run_start, run_proper, run_same, run_more, run_end}
 use Rattle.sheet_reader.proofs.run_rounds.Goals as goal
 
 pub loop-rounds-init : goal.loop-rounds-init
@@ -11,7 +10,7 @@ pub returns-then-is_proper : goal.returns-then-is_proper
 returns-then-is_proper c = search (run_proper, rules)
 
 pub returns-then-same : goal.returns-then-same
-returns-then-same c =     run_same _ _ _ c.loop-rounds.invariant _ (search rules) c.is_proper.ensures (search rules) _ _ c.lines_read-between.ensures
+returns-then-same c = run_same _ _ _ c.loop-rounds.invariant _ (search rules) c.is_proper.ensures (search rules) _ _ c.lines_read-between.ensures
     c.columns_read-next.ensures _ c.same.ensures c.if-same.true
 
 pub loop-rounds-preserved : goal.loop-rounds-preserved

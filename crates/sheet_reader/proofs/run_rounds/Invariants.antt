@@ -1,7 +1,6 @@
 -- `sheet_reader::run_rounds` meets its contract: each turn runs one round more, unless the sheet is proper or the round leaves it as it was.
-use borrow.Author.Rules.{rules}
 use Prim.Native.Nat.{◌-◌}
-use Rattle.sheet_reader.proofs.Running.{RunTo, run_start, run_proper, run_same, run_more, run_end}
+use Rattle.sheet_reader.proofs.Running.{RunTo}
 use Rattle.sheet_reader.proofs.run_rounds.Given as goal
 
 abbrev pub invariant-loop-rounds : goal.invariant-loop-rounds

@@ -1,8 +1,7 @@
 -- `sheet_reader::same` meets its contract: the entries passed are the same, and one that is not tells.
-use borrow.Author.Rules.{rules}
 use Prim.Native.Nat.{◌-◌}
 use lib.ListN.{length}
-use Rattle.sheet_reader.proofs.Tests.{SameTo, same_start, same_again, same_not, same_all}
+use Rattle.sheet_reader.proofs.Tests.{SameTo}
 use Rattle.sheet_reader.proofs.same.Given as goal
 
 abbrev pub invariant-loop-k : goal.invariant-loop-k

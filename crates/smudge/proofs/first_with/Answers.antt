@@ -1,6 +1,5 @@
 -- `smudge::first_with` meets its contract: either no window holds so many, or the lowest first cell is that of the window.
 use native.Mathlib.Omega.{arith}
-use borrow.Author.Rules.{rules}
 use Rattle.smudge.proofs.Functions.{trailing_fits, trailing_inside, with_none, with_some}
 use Rattle.smudge.proofs.first_with.Goals as goal
 

@@ -1,6 +1,5 @@
 -- `smudge::is_sound` meets its contract: no row is odd, and no column wrong.
 use native.Mathlib.Omega.{arith}
-use borrow.Author.Rules.{rules}
 use Rattle.smudge.proofs.Functions.{rows_wrong, columns_tell}
 use Rattle.smudge.proofs.is_sound.Goals as goal
 

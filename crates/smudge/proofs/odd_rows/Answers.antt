@@ -1,6 +1,5 @@
 -- `smudge::odd_rows` meets its contract: those of the straightened block.
 use mathlib.Core.Path.{ap, ◌∙◌}
-use borrow.Author.Rules.{rules}
 use Rattle.smudge.specs.Inside.{odd_bytes}
 use Rattle.smudge.proofs.Parities.{odd_is}
 use Rattle.smudge.proofs.odd_rows.Goals as goal

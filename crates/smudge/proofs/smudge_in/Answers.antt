@@ -1,6 +1,5 @@
 -- `smudge::smudge_in` meets its contract: what the definition finds from the two kinds of parities.
 use native.Mathlib.Omega.{arith}
-use borrow.Author.Rules.{rules}
 use Rattle.smudge.specs.Inside.{straight}
 use Rattle.smudge.proofs.Parities.{odd_most}
 use Rattle.smudge.proofs.Functions.{smudge_is}
@@ -13,4 +12,4 @@ pub overflow_cast-columns-2 : goal.overflow_cast-columns-2
 overflow_cast-columns-2 c = omega (arith, lib.Count.ones-le 8 c.wrong_columns-columns.result (omega arith))
 
 pub returns : goal.returns
-returns c =     smudge_is _ _ _ _ _ c.odd_rows.ensures c.wrong_columns-columns.ensures (omega arith) c.staggered-crossings.ensures c.first_with.ensures
+returns c = smudge_is _ _ _ _ _ c.odd_rows.ensures c.wrong_columns-columns.ensures (omega arith) c.staggered-crossings.ensures c.first_with.ensures

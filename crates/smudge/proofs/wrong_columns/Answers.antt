@@ -2,7 +2,6 @@
 use mathlib.Core.Path.{ap, ◌∙◌}
 use Prim.Native.Nat.{ℕ}
 use lib.Bits.{bit_xor}
-use borrow.Author.Rules.{rules}
 use Rattle.numbers.specs.Total.{total}
 use Rattle.eights.specs.Inside.{byte}
 use Rattle.block.specs.Inside.{wanted}

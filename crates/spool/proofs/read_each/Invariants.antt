@@ -1,7 +1,6 @@
 -- `spool::read_each` meets its contract: each turn reads one line more into its own part of the output.
-use borrow.Author.Rules.{rules}
 use Prim.Native.Nat.{◌-◌}
-use Rattle.spool.proofs.Loops.{EachTo, each_none, each_more, each_all}
+use Rattle.spool.proofs.Loops.{EachTo}
 use Rattle.spool.proofs.read_each.Given as goal
 
 abbrev pub invariant-loop-i : goal.invariant-loop-i

@@ -1,7 +1,6 @@
 -- `sums::filled` meets its contract: the loop keeps that the characters passed are in place.
-use Prim.Native.Nat.{◌-◌}
 use borrow.Author.Rules.{rules}
-use Rattle.sums.proofs.Loops.{FilledTo, filled_none, filled_again, filled_all}
+use Rattle.sums.proofs.Loops.{filled_none, filled_again, filled_all}
 use Rattle.sums.proofs.filled.Goals as goal
 
 pub loop-a-init : goal.loop-a-init

@@ -1,7 +1,6 @@
 -- `sums::filled` meets its contract: the loop keeps that the characters passed are in place.
 use Prim.Native.Nat.{◌-◌}
-use borrow.Author.Rules.{rules}
-use Rattle.sums.proofs.Loops.{FilledTo, filled_none, filled_again, filled_all}
+use Rattle.sums.proofs.Loops.{FilledTo}
 use Rattle.sums.proofs.filled.Given as goal
 
 abbrev pub invariant-loop-a : goal.invariant-loop-a

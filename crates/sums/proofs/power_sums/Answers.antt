@@ -1,7 +1,6 @@
 -- `sums::power_sums` meets its contract: the loop keeps that the sums passed are in place, and S_0 in its own.
-use Prim.Native.Nat.{◌-◌}
 use borrow.Author.Rules.{rules}
-use Rattle.sums.proofs.Loops.{PlacedTo, placed_none, placed_again, placed_all}
+use Rattle.sums.proofs.Loops.{placed_none, placed_again, placed_all}
 use Rattle.sums.proofs.power_sums.Goals as goal
 
 pub loop-k-init : goal.loop-k-init

@@ -1,7 +1,6 @@
 -- `sums::unpacked` meets its contract: the sums passed are in place, and p holds those after them.
-use borrow.Author.Rules.{rules}
 use Prim.Native.Nat.{◌-◌}
-use Rattle.sums.proofs.Loops.{UnpackedTo, unpacked_none, unpacked_again, unpacked_all, unpacked_long}
+use Rattle.sums.proofs.Loops.{UnpackedTo}
 use Rattle.sums.proofs.unpacked.Given as goal
 
 abbrev pub invariant-loop-k : goal.invariant-loop-k

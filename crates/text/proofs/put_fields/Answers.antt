@@ -1,8 +1,6 @@
 -- put_fields puts the numbers, each after a space: after i turns the first i of them.
 use borrow.Author.Rules.{rules}
-use lib.ListN.{length}
-use Prim.Native.Nat.{◌-◌}
-use Rattle.text.proofs.Writing.{FieldsTo, fields_none, fields_more, fields_all}
+use Rattle.text.proofs.Writing.{fields_none, fields_more, fields_all}
 use Rattle.text.proofs.put_fields.Goals as goal
 
 pub loop-i-init : goal.loop-i-init

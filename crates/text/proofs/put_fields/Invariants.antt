@@ -1,8 +1,7 @@
 -- put_fields puts the numbers, each after a space: after i turns the first i of them.
-use borrow.Author.Rules.{rules}
 use lib.ListN.{length}
 use Prim.Native.Nat.{◌-◌}
-use Rattle.text.proofs.Writing.{FieldsTo, fields_none, fields_more, fields_all}
+use Rattle.text.proofs.Writing.{FieldsTo}
 use Rattle.text.proofs.put_fields.Given as goal
 
 abbrev pub invariant-loop-i : goal.invariant-loop-i

@@ -1,8 +1,6 @@
 -- put_word puts the word: after i turns its first i bytes.
 use borrow.Author.Rules.{rules}
-use lib.ListN.{length}
-use Prim.Native.Nat.{◌-◌}
-use Rattle.text.proofs.Writing.{WordTo, word_none, word_more, word_all}
+use Rattle.text.proofs.Writing.{word_none, word_more, word_all}
 use Rattle.text.proofs.put_word.Goals as goal
 
 pub loop-i-init : goal.loop-i-init

@@ -1,8 +1,7 @@
 -- put_word puts the word: after i turns its first i bytes.
-use borrow.Author.Rules.{rules}
 use lib.ListN.{length}
 use Prim.Native.Nat.{◌-◌}
-use Rattle.text.proofs.Writing.{WordTo, word_none, word_more, word_all}
+use Rattle.text.proofs.Writing.{WordTo}
 use Rattle.text.proofs.put_word.Given as goal
 
 abbrev pub invariant-loop-i : goal.invariant-loop-i

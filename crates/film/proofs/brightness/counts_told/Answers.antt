@@ -1,5 +1,4 @@
 -- `film::brightness::counts_told` gives an answer's numbers: in each arm the struct has the fields of that case.
-use borrow.Author.Rules.{rules}
 use Rattle.film.proofs.brightness.counts_told.Goals as goal
 
 pub returns-in-Counted : goal.returns-in-Counted

@@ -1,5 +1,4 @@
 -- `film::brightness::film_scan_clarity` promises what `clarity::scan_clarity` does: the numbers and the doubles are the same.
-use borrow.Author.Rules.{rules}
 use Rattle.film.proofs.brightness.film_scan_clarity.Goals as goal
 
 pub returns : goal.returns

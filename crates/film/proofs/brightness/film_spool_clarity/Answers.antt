@@ -1,5 +1,4 @@
 -- `film::brightness::film_spool_clarity` promises what `clarity::spool_clarity` does: the numbers are the same.
-use borrow.Author.Rules.{rules}
 use Rattle.film.proofs.brightness.film_spool_clarity.Goals as goal
 
 pub returns : goal.returns

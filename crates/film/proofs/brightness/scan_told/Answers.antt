@@ -1,5 +1,4 @@
 -- `film::brightness::scan_told` gives an answer's numbers and doubles: in each arm the struct has the fields of that case.
-use borrow.Author.Rules.{rules}
 use Rattle.film.proofs.brightness.scan_told.Goals as goal
 
 pub returns-in-Ratio : goal.returns-in-Ratio

@@ -1,5 +1,4 @@
 -- `film::recorder::film_checks` promises what `Register::checks` does: the checks are handed on, and the number is the answer's.
-use borrow.Author.Rules.{rules}
 use Rattle.film.proofs.recorder.film_checks.Goals as goal
 
 pub returns : goal.returns

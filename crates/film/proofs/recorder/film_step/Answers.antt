@@ -1,5 +1,4 @@
 -- `film::recorder::film_step` promises what `Register::step` does: the register is handed on and back field by field, and the number is the answer's.
-use borrow.Author.Rules.{rules}
 use Rattle.film.proofs.recorder.film_step.Goals as goal
 
 pub returns : goal.returns

@@ -1,5 +1,4 @@
 -- `film::recorder::step_number` gives a step's number: the arm of a refusal has the number of its reason.
-use borrow.Author.Rules.{rules}
 use Rattle.film.proofs.recorder.step_number.Goals as goal
 
 pub returns-in-Refused : goal.returns-in-Refused

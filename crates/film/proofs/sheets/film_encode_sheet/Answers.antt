@@ -1,5 +1,4 @@
 -- `film::sheets::film_encode_sheet` promises what `sheet_encoder::encode_sheet` does: in each arm the number is that of the case.
-use borrow.Author.Rules.{rules}
 use Rattle.film.proofs.sheets.film_encode_sheet.Goals as goal
 
 pub returns-in-Written : goal.returns-in-Written

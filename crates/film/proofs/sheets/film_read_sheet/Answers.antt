@@ -1,5 +1,4 @@
 -- `film::sheets::film_read_sheet` promises what `sheet_reader::read_sheet` does: in each arm the numbers are those of the case.
-use borrow.Author.Rules.{rules}
 use Rattle.film.proofs.sheets.film_read_sheet.Goals as goal
 
 pub returns-in-Proper : goal.returns-in-Proper

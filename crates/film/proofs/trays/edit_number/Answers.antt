@@ -1,5 +1,4 @@
 -- `film::trays::edit_number` gives the number of an operation's answer: the arm of a refusal has the number of its reason.
-use borrow.Author.Rules.{rules}
 use Rattle.film.proofs.trays.edit_number.Goals as goal
 
 pub returns-in-Refused : goal.returns-in-Refused

@@ -1,5 +1,4 @@
 -- `film::trays::film_tray_count` promises what `open_tray::ask_count` does: in each arm the numbers are those of the case.
-use borrow.Author.Rules.{rules}
 use Rattle.film.proofs.trays.film_tray_count.Goals as goal
 
 pub returns-in-Wrong : goal.returns-in-Wrong

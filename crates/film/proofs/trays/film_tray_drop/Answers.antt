@@ -1,5 +1,4 @@
 -- `film::trays::film_tray_drop` promises what `open_tray::drop_line` does: the number is that of its answer.
-use borrow.Author.Rules.{rules}
 use Rattle.film.proofs.trays.film_tray_drop.Goals as goal
 
 pub returns : goal.returns

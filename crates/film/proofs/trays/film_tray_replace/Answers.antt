@@ -1,5 +1,4 @@
 -- `film::trays::film_tray_replace` promises what `open_tray::replace_character` does: the number is that of its answer.
-use borrow.Author.Rules.{rules}
 use Rattle.film.proofs.trays.film_tray_replace.Goals as goal
 
 pub returns : goal.returns

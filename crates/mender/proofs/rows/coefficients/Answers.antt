@@ -1,7 +1,6 @@
 -- `mender::rows::coefficients` meets its contract: the coefficients before k are set, and q has those from k on.
 use borrow.Author.Rules.{rules}
-use Prim.Native.Nat.{◌≤◌, ◌-◌}
-use Rattle.mender.proofs.rows.Loops.{CoefficientsTo, coefficients_none, coefficients_again, coefficients_all}
+use Rattle.mender.proofs.rows.Loops.{coefficients_none, coefficients_again, coefficients_all}
 use Rattle.mender.proofs.rows.coefficients.Goals as goal
 
 pub loop-k-init : goal.loop-k-init

@@ -1,8 +1,6 @@
 -- `mender::rows::first_row` meets its contract: the rows passed so far are 0.
-use borrow.Author.Rules.{rules}
 use Prim.Native.Nat.{◌≤◌, ◌-◌}
-use borrow.Author.Count.{below_none}
-use Rattle.mender.proofs.rows.Loops.{BareRows, bare_rows_more, first_row_here, first_row_none}
+use Rattle.mender.proofs.rows.Loops.{BareRows}
 use Rattle.mender.proofs.rows.first_row.Given as goal
 
 abbrev pub invariant-loop-i : goal.invariant-loop-i

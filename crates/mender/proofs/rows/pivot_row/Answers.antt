@@ -1,8 +1,7 @@
 -- `mender::rows::pivot_row` meets its contract: the rows passed so far combine the window to 0.
 use borrow.Author.Rules.{rules}
-use Prim.Native.Nat.{◌≤◌, ◌-◌}
 use borrow.Author.Count.{below_none}
-use Rattle.mender.proofs.rows.Loops.{QuietRows, quiet_rows_more, pivot_row_here, pivot_row_none}
+use Rattle.mender.proofs.rows.Loops.{quiet_rows_more, pivot_row_here, pivot_row_none}
 use Rattle.mender.proofs.rows.pivot_row.Goals as goal
 
 pub loop-i-init : goal.loop-i-init

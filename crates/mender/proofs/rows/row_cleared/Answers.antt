@@ -1,11 +1,6 @@
 -- `mender::rows::row_cleared` meets its contract: the rows after row p and before row i are cleared.
 use borrow.Author.Rules.{rules}
-use Prim.Native.Nat.{◌<◌, ◌≤◌, ◌-◌}
-use mathlib.Core.Path.{◌≡◌}
-use lib.ListN.{get_or}
-use Rattle.field.specs.Inside.{inverse}
-use Rattle.lanes.specs.Lanes.{lane}
-use Rattle.mender.proofs.rows.Loops.{Tables, tables_are, scaled_fits, inverse_lane, pivot_divides, part_fits, RowsClearedTo, rows_cleared_none, rows_cleared_again, rows_cleared_all}
+use Rattle.mender.proofs.rows.Loops.{tables_are, scaled_fits, inverse_lane, pivot_divides, part_fits, rows_cleared_none, rows_cleared_again, rows_cleared_all}
 use Rattle.mender.proofs.rows.row_cleared.Goals as goal
 
 pub inverse-inverse-requires : goal.inverse-inverse-requires
@@ -21,7 +16,7 @@ pub bounds-high-f : goal.bounds-high-f
 bounds-high-f c = search (part_fits, rules)
 
 pub loop-i-preserved : goal.loop-i-preserved
-loop-i-preserved c =     let inv = c.loop-i.invariant in
+loop-i-preserved c = let inv = c.loop-i.invariant in
     (search rules, search rules, inv.2, inv.3, rows_cleared_again _ _ _ _ _ _ _ _ _ _ inv.0 c.loop-i-test.true inv.2 c.lane_of-in-loop-i.ensures c.times-f.ensures inv.3 inv.4)
 
 pub returns : goal.returns

@@ -1,11 +1,10 @@
 -- `mender::rows::row_cleared` meets its contract: the rows after row p and before row i are cleared.
-use borrow.Author.Rules.{rules}
 use Prim.Native.Nat.{◌<◌, ◌≤◌, ◌-◌}
 use mathlib.Core.Path.{◌≡◌}
 use lib.ListN.{get_or}
 use Rattle.field.specs.Inside.{inverse}
 use Rattle.lanes.specs.Lanes.{lane}
-use Rattle.mender.proofs.rows.Loops.{Tables, tables_are, scaled_fits, inverse_lane, pivot_divides, part_fits, RowsClearedTo, rows_cleared_none, rows_cleared_again, rows_cleared_all}
+use Rattle.mender.proofs.rows.Loops.{Tables, RowsClearedTo}
 use Rattle.mender.proofs.rows.row_cleared.Given as goal
 
 abbrev pub invariant-loop-i : goal.invariant-loop-i

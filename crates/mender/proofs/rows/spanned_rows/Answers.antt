@@ -1,10 +1,7 @@
 -- `mender::rows::spanned_rows` meets its contract: after j windows the rows are those that combine j windows to 0.
 use borrow.Author.Rules.{rules}
-use Prim.Native.Nat.{min, ◌<◌, ◌≤◌, ◌-◌}
+use Prim.Native.Nat.{◌<◌}
 use native.Mathlib.Omega.{arith}
-use mathlib.Core.Path.{◌≡◌}
-use mathlib.Core.Logic.{⊎_elim}
-use Rattle.mender.specs.Rows.{RowsFrom}
 use Rattle.mender.proofs.rows.Elimination.{from_units, from_step, from_skip, from_all}
 use Rattle.mender.proofs.rows.Loops.{pivot_row_lane}
 use Rattle.mender.proofs.rows.spanned_rows.Goals as goal

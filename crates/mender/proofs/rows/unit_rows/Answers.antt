@@ -1,7 +1,6 @@
 -- `mender::rows::unit_rows` meets its contract: the first i rows are set.
 use borrow.Author.Rules.{rules}
-use Prim.Native.Nat.{suc, ◌≤◌, ◌-◌}
-use Rattle.mender.proofs.rows.Loops.{UnitRowsTo, unit_rows_none, one_mul, one_add, unit_rows_again, unit_rows_all}
+use Rattle.mender.proofs.rows.Loops.{unit_rows_none, one_mul, one_add, unit_rows_again, unit_rows_all}
 use Rattle.mender.proofs.rows.unit_rows.Goals as goal
 
 pub loop-i-init : goal.loop-i-init

@@ -1,6 +1,6 @@
 -- `mender::values::both_at` meets its contract: the coefficients from m on are in.
 use borrow.Author.Rules.{rules}
-use Rattle.mender.proofs.values.Loops.{BothTo, both_none, both_again, both_all}
+use Rattle.mender.proofs.values.Loops.{both_none, both_again, both_all}
 use Rattle.mender.proofs.values.both_at.Goals as goal
 
 pub loop-m-init : goal.loop-m-init

@@ -1,7 +1,6 @@
 -- `mender::values::inverses` meets its contract: the inverses of the first i lanes are in the highest of five.
-use borrow.Author.Rules.{rules}
 use Prim.Native.Nat.{◌-◌}
-use Rattle.mender.proofs.values.Loops.{InversesTo, inverses_none, inverse_fits, inverses_fit, inverses_again, inverses_all}
+use Rattle.mender.proofs.values.Loops.{InversesTo}
 use Rattle.mender.proofs.values.inverses.Given as goal
 
 abbrev pub invariant-loop-i : goal.invariant-loop-i

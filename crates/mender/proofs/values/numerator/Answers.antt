@@ -1,9 +1,6 @@
 -- `mender::values::numerator` meets its contract: the sums from n + k on are in.
 use borrow.Author.Rules.{rules}
-use mathlib.Core.Path.{◌≡◌}
-use Prim.Native.Nat.{◌≤◌, ◌*◌, ◌/◌, ◌^◌}
-use Rattle.mender.specs.Values.{lanes_of}
-use Rattle.mender.proofs.values.Loops.{NumeratorTo, numerator_none, numerator_inside, numerator_turn, numerator_all}
+use Rattle.mender.proofs.values.Loops.{numerator_none, numerator_inside, numerator_turn, numerator_all}
 use Rattle.mender.proofs.values.numerator.Goals as goal
 
 pub loop-k-init : goal.loop-k-init

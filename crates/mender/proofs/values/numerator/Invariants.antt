@@ -1,9 +1,8 @@
 -- `mender::values::numerator` meets its contract: the sums from n + k on are in.
-use borrow.Author.Rules.{rules}
 use mathlib.Core.Path.{◌≡◌}
 use Prim.Native.Nat.{◌≤◌, ◌*◌, ◌/◌, ◌^◌}
 use Rattle.mender.specs.Values.{lanes_of}
-use Rattle.mender.proofs.values.Loops.{NumeratorTo, numerator_none, numerator_inside, numerator_turn, numerator_all}
+use Rattle.mender.proofs.values.Loops.{NumeratorTo}
 use Rattle.mender.proofs.values.numerator.Given as goal
 
 abbrev pub invariant-loop-k : goal.invariant-loop-k

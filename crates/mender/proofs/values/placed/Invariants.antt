@@ -1,8 +1,6 @@
 -- `mender::values::placed` meets its contract: the roots below l have their values, and no other place has one.
-use borrow.Author.Rules.{rules}
 use Prim.Native.Nat.{◌-◌}
-use mathlib.Core.Logic.{⊎_elim}
-use Rattle.mender.proofs.values.Placing.{PlacedTo, placed_none, placed_long, placed_room, turn_some, turn_none, placed_all}
+use Rattle.mender.proofs.values.Placing.{PlacedTo}
 use Rattle.mender.proofs.values.placed.Given as goal
 
 abbrev pub invariant-loop-l : goal.invariant-loop-l

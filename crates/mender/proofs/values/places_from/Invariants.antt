@@ -1,7 +1,6 @@
 -- `mender::values::places_from` meets its contract: the first i places are in the highest of five lanes.
-use borrow.Author.Rules.{rules}
 use Prim.Native.Nat.{◌-◌}
-use Rattle.mender.proofs.values.Loops.{PlacesTo, places_none, place_fits, places_fit, places_again, places_all}
+use Rattle.mender.proofs.values.Loops.{PlacesTo}
 use Rattle.mender.proofs.values.places_from.Given as goal
 
 abbrev pub invariant-loop-i : goal.invariant-loop-i

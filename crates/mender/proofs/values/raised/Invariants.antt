@@ -1,7 +1,6 @@
 -- `mender::values::raised` meets its contract: k - n factors are in.
-use borrow.Author.Rules.{rules}
 use Prim.Native.Nat.{◌-◌}
-use Rattle.mender.proofs.values.Loops.{RaisedTo, raised_none, raised_again, raised_all}
+use Rattle.mender.proofs.values.Loops.{RaisedTo}
 use Rattle.mender.proofs.values.raised.Given as goal
 
 abbrev pub invariant-loop-k : goal.invariant-loop-k

@@ -1,8 +1,6 @@
 -- `ring::pattern::all_gains` meets its contract: the loop keeps that the starts passed, of each direction, have what their marks add.
 use borrow.Author.Rules.{rules}
-use Prim.Native.Nat.{◌-◌}
-use Rattle.ring.specs.Inside.{Twice}
-use Rattle.ring.proofs.pattern.Gains.{GainsTo, gains_none, gains_more, gains_all}
+use Rattle.ring.proofs.pattern.Gains.{gains_none, gains_more, gains_all}
 use Rattle.ring.proofs.pattern.all_gains.Goals as goal
 
 pub loop-turn-init : goal.loop-turn-init

@@ -1,6 +1,5 @@
 -- `ring::pattern::three_gains` meets its contract: a gain is at most 2, so the sum of three fits.
 use native.Mathlib.Omega.{arith}
-use borrow.Author.Rules.{rules}
 use Rattle.ring.proofs.pattern.Gains.{gain_most}
 use Rattle.ring.proofs.pattern.three_gains.Goals as goal
 

@@ -1,7 +1,6 @@
 -- `ring::pattern::twice` meets its contract: the loop keeps that the places passed have their errors, in the first round and in the second.
-use borrow.Author.Rules.{rules}
 use Prim.Native.Nat.{◌-◌}
-use Rattle.ring.proofs.pattern.Gains.{TwiceTo, twice_none, twice_more, twice_all}
+use Rattle.ring.proofs.pattern.Gains.{TwiceTo}
 use Rattle.ring.proofs.pattern.twice.Given as goal
 
 abbrev pub invariant-loop-place : goal.invariant-loop-place

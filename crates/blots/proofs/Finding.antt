@@ -172,8 +172,8 @@ module _ (w m d : List ℕ) (es : ErrorSums w d) where
   sum_is : (k : ℕ) → k < 11 → get_or d k 0 ≡ sum (power_sum (58 + k) w) (power_sum (58 + k) marks)
   sum_is k h =
       ap (λ (s : List ℕ). get_or s k 0) es.both
-      ∙ added_get es.of_word es.of_marks (es.word_sums.long ∙ sym es.mark_sums_lem.long) k
-      ∙ ap₂ sum (es.word_sums.sum_at k h) (es.mark_sums_lem.sum_at k h)
+      ∙ added_get es.of_word es.of_marks (es.word_sums.long ∙ sym es.mark_sums.long) k
+      ∙ ap₂ sum (es.word_sums.sum_at k h) (es.mark_sums.sum_at k h)
 
   pub line_with : length w ≡ 63 → Characters w → (x : List ℕ) → FitsBlotted d 11 m x → BlottedLine m w (added w x)
   line_with long characters x f =

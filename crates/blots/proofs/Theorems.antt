@@ -130,7 +130,7 @@ module _ (w m old : List ℕ) (long : length w ≡ 63) (wide : length m ≡ 63) 
       d = added of_word of_marks
 
       errors : ErrorSums w d
-      errors = record { of_word = of_word; of_marks = of_marks; word_sums = horner_sums w; mark_sums_lem = horner_sums marks; both = refl }
+      errors = record { of_word = of_word; of_marks = of_marks; word_sums = horner_sums w; mark_sums = horner_sums marks; both = refl }
 
       small : (v s : List ℕ) → PowerSums v s → Characters s
       small v s p = characters_below s 11 (omega (arith, p.long)) (λ k h. subst (λ (n : ℕ). n < 64) (sym (p.sum_at k h)) (power_sum_lt (58 + k) v))

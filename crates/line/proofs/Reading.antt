@@ -60,7 +60,7 @@ marks_packed s h p e =
     }
 
 pub errors_are : (w s d : List ℕ) (g h : Sums) → PowerSums w (eleven g) → PowerSums marks s → eleven h ≡ lowered s → d ≡ added (eleven g) (eleven h) → ErrorSums w d
-errors_are w s d g h p q e b = record { of_word = eleven g; of_marks = eleven h; word_sums = p; mark_sums_lem = marks_packed s h q e; both = b }
+errors_are w s d g h p q e b = record { of_word = eleven g; of_marks = eleven h; word_sums = p; mark_sums = marks_packed s h q e; both = b }
 
 unchanged : (w : List ℕ) → length w ≡ 63 → w ≡ added w (replicate 63 0)
 unfolding sum
@@ -71,8 +71,8 @@ unchanged w l =
 module _ (w d : List ℕ) (t : ℕ) (es : ErrorSums w d) (long : length w ≡ 63) (characters : Yes (Characters w)) where
   repaired-line : (m : Mended) → Repairs d w (min t 5) m → Nearest Line w (min t 5) m
   repaired-line m r =
-      nearest_line_is w es.of_marks (min t 5) m es.mark_sums_lem
-      (near w es.of_word es.of_marks d (min t 5) true m long (tells_yes characters.is) refl es.word_sums es.mark_sums_lem.long es.both r)
+      nearest_line_is w es.of_marks (min t 5) m es.mark_sums
+      (near w es.of_word es.of_marks d (min t 5) true m long (tells_yes characters.is) refl es.word_sums es.mark_sums.long es.both r)
 
 -- ---- the wanted number
 

@@ -140,7 +140,7 @@ one_nearest_line w t m n =
 -- any two lists of the sums of what a word and a line differ by
 pub one_error_sums : (w d e : List ℕ) → ErrorSums w d → ErrorSums w e → d ≡ e
 one_error_sums w d e p q =
-    p.both ∙ ap₂ added (one_list_of_sums w p.of_word q.of_word p.word_sums q.word_sums) (one_list_of_sums marks p.of_marks q.of_marks p.mark_sums_lem q.mark_sums_lem)
+    p.both ∙ ap₂ added (one_list_of_sums w p.of_word q.of_word p.word_sums q.word_sums) (one_list_of_sums marks p.of_marks q.of_marks p.mark_sums q.mark_sums)
     ∙ sym q.both
 
 -- and any two results of writing a line

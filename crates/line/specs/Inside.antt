@@ -33,7 +33,7 @@ pub record ErrorSums (w d : List ℕ) : Type 0 where
   pub of_word : List ℕ
   pub of_marks : List ℕ
   pub word_sums : PowerSums w of_word
-  pub mark_sums_lem : PowerSums marks of_marks
+  pub mark_sums : PowerSums marks of_marks
   pub both : d ≡ added of_word of_marks
 
 -- the number in the low six bits of two characters, which is that of a line

@@ -170,12 +170,12 @@ afresh w s d long es e =
     (λ k h. let b : k < 11 = omega (arith, both_long) in at k b ∙ sym (fresh_get w k b))
   where
     same_long : length es.of_word ≡ length es.of_marks
-    same_long = es.word_sums.long ∙ sym es.mark_sums_lem.long
+    same_long = es.word_sums.long ∙ sym es.mark_sums.long
 
     both_long : length (added es.of_word es.of_marks) ≡ 11
     both_long = length_added es.of_word es.of_marks same_long ∙ es.word_sums.long
 
     at : (k : ℕ) → k < 11 → get_or (added es.of_word es.of_marks) k 0 ≡ power_sum (58 + k) (added w marks)
     at k b =
-        added_get es.of_word es.of_marks same_long k ∙ ap₂ sum (es.word_sums.sum_at k b) (es.mark_sums_lem.sum_at k b)
+        added_get es.of_word es.of_marks same_long k ∙ ap₂ sum (es.word_sums.sum_at k b) (es.mark_sums.sum_at k b)
         ∙ sym (power_sum_added (58 + k) w marks (long ∙ sym marks_long))

@@ -1,6 +1,6 @@
 -- `terms_high::at14` meets its contract: each entry is computed.
 use mathlib.Core.Path.{refl}
-use mathlib.Core.List.{List, ◌∷◌}
+use mathlib.Core.List.{List, [], ◌∷◌}
 use Prim.Native.Nat.{ℕ}
 use Rattle.field.specs.Field.{sum, times_x, shifted, product, power}
 use Rattle.lanes.specs.Lanes.{pack}

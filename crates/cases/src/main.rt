@@ -39,7 +39,7 @@ use std::io;
 use std::io::{BufReader, BufWriter, Read, Write};
 
 mod blocks;
-mod clarity;
+mod clarities;
 mod lines;
 mod open_trays;
 mod sheets;
@@ -356,8 +356,8 @@ fn hand_over(
         OPEN_TRAY => open_trays::open_tray(out, input, wide(number), small),
         ENCODE_SMUDGE => blocks::encode_smudge(out, input, output),
         READ_SMUDGE => blocks::read_smudge(out, input, output),
-        SCAN_CLARITY => clarity::scan_clarity(out, input, small),
-        SPOOL_CLARITY => clarity::spool_clarity(out, input, wide(number), small),
+        SCAN_CLARITY => clarities::scan_clarity(out, input, small),
+        SPOOL_CLARITY => clarities::spool_clarity(out, input, wide(number), small),
         _ => pass_over(out),
     }
 }

@@ -9,12 +9,7 @@ loop-a-init c = search (columns_none, rules)
 
 pub loop-a-preserved : goal.loop-a-preserved
 loop-a-preserved c =
-    elim c.if-found.branch [
-      | then-found w ↦
-          column_put _ _ _ _ c.clean_within-found.result c.loop-a.invariant (search rules) (search rules) c.clean_within-found.ensures _ _ w.if-found.true
-          w.put_column.ensures w.s-is
-      | else-found w ↦ search (column_left, rules)
-    ]
+    elim c.if-found.branch [ then-found w ↦ search (column_put, rules) | else-found w ↦ search (column_left, rules) ]
 
 pub returns : goal.returns
 returns c = search (columns_all, rules)

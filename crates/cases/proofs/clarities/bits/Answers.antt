@@ -1,8 +1,8 @@
--- `cases::clarity::bits` is safe: a double that is the same as itself is a number.
+-- `cases::clarities::bits` is safe: a double that is the same as itself is a number.
 use Rattle.std.proofs.Common.{◌≡◌, subst, not, false}
 use lib.Dec.{T}
 use lib.Ieee.{Float, nan, inf, fin, eq, ne, is_nan}
-use Rattle.cases.proofs.clarity.bits.Goals as goal
+use Rattle.cases.proofs.clarities.bits.Goals as goal
 
 no_nan : (x : Float) → ne x x ≡ false → T (not (is_nan x))
 unfolding ne eq is_nan

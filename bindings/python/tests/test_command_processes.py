@@ -22,6 +22,11 @@ from film_command.rows import JSON, Rows
 from film_command.source import Source
 
 
+def hears_control_c():
+    """In a process that is about to begin: Ctrl-C is not passed over, as it is where the tests run in the background of a shell."""
+    signal.signal(signal.SIGINT, signal.SIG_DFL)
+
+
 def children(process):
     return [int(child) for child in pathlib.Path(f"/proc/{process}/task/{process}/children").read_text().split()]
 
@@ -97,7 +102,7 @@ class Pipes(CommandCase):
     def test_control_c(self):
         """Ctrl-C, which goes to every process of the command, ends it with 130 and no word."""
         for jobs in (1, 3):
-            with self.begun("read", "--as", "lines", "--jobs", jobs, start_new_session=True) as process:
+            with self.begun("read", "--as", "lines", "--jobs", jobs, start_new_session=True, preexec_fn=hears_control_c) as process:
                 self.fed(process, 12000)
                 started = children(process.pid)
                 self.assertEqual(len(started), 0 if jobs == 1 else jobs)

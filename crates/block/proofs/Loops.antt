@@ -1,16 +1,24 @@
 -- The loops of this crate: for each a record of what the turns so far have done, with its start, its turn and its end.
 use mathlib.Core.Path.{◌≡◌, refl, sym, ap, ap₂, ◌∙◌}
-use mathlib.Core.Bool.{true, false}
+use mathlib.Core.Bool.{Bool, true, false}
 use mathlib.Core.List.{List, [], ◌∷◌, ◌++◌}
-use Prim.Native.Nat.{ℕ, suc, ◌+◌, ◌*◌, ◌/◌, ◌%◌, ◌<◌, ◌≤◌}
-use native.Mathlib.Nat.{not-suc-le-zero}
+use Prim.Native.Nat.{ℕ, zero, suc, ◌+◌, ◌*◌, ◌/◌, ◌%◌, ◌<◌, ◌≤◌}
+use native.Mathlib.Nat.{not-suc-le-zero, add-zero}
 use native.Mathlib.Numerals.{add-one}
 use native.Mathlib.Decide.{dec_lt}
 use native.Mathlib.Omega.{arith}
-use borrow.Author.Count.{below_none, below_more}
 use lib.ListN.{length, get_or, set, take, drop, length-map, length-set, get_or-eq_default}
-use lib.Seq.{drop-cons, drop-length, take-suc, take-length, set_at, append_snoc, length-take-le}
+use lib.Seq.{drop-drop, drop-cons, drop-length, take-suc, take-length, set_at, append_snoc, length-take-le}
 use lib.Bits.{bit_xor, xor_zero_r}
+use lib.Dec.{leb}
+use mir.Syntax.{w64}
+use Rattle.std.specs.Int.{from_le_bytes}
+use Rattle.std.specs.Simd.{first_chunks}
+use Rattle.std.specs.List.{list_all}
+use Rattle.std.proofs.lemmas.List.{get_or-take, get_or-drop}
+use Rattle.std.proofs.lemmas.Bool.{leb-true, le-leb, false≢true}
+use Rattle.std.proofs.lemmas.Grind.{get_or_default_zero}
+use Rattle.std.proofs.lemmas.List.Sums.{AllPass-from_list_all, list_all-from_AllPass}
 use Rattle.numbers.proofs.Cases.{pos_of_not_zero}
 use Rattle.numbers.proofs.Xor.{xor_assoc, xor_undo}
 use Rattle.refusal.specs.Promise.{Tells}
@@ -18,7 +26,7 @@ use Rattle.refusal.proofs.Laws.{tells_yes, tells_no}
 use Rattle.numbers.specs.Total.{total}
 use Rattle.numbers.proofs.Totals.{total_none, total_front}
 use Rattle.eights.specs.Inside.{byte, HoldsBytes, eight_from}
-use Rattle.eights.proofs.Laws.{none_byte}
+use Rattle.eights.proofs.Laws.{none_byte, eight_holds}
 use Rattle.eights.proofs.Loops.{holds_at, eight_more}
 use Rattle.block.specs.Block.{Bytes, ones, Sevens}
 use Rattle.block.specs.Inside.{odd_rows, summed, wanted, Counted, checked, with_checks, encoded}
@@ -83,33 +91,63 @@ counted_all rows i odd row columns b t h =
       row_odd = t.row_odd;
     }
 
+-- ---- eight rows in one number
+
+-- the chunks of eight
+chunk_at : (m k : ℕ) (rows d : List ℕ) → k < m → get_or (first_chunks 8 m rows) k d ≡ take 8 (drop (8 * k) rows)
+chunk_at zero k rows d h = absurd (omega arith)
+chunk_at (suc m) zero rows d h = refl
+chunk_at (suc m) (suc k) rows d h =
+    let e : 8 + 8 * k ≡ 8 * suc k = omega arith in
+    chunk_at m k (drop 8 rows) d (omega arith) ∙ ap (take 8) (drop-drop (8 * k) 8 rows ∙ ap (λ (n : ℕ). drop n rows) e)
+
+-- the number of the bytes of one holds them
+pub chunk_holds : (rows d : List ℕ) (chunks : List (List ℕ)) (k x : ℕ) → Bytes rows → chunks ≡ first_chunks 8 (length rows / 8) rows → k < length rows / 8
+    → x ≡ from_le_bytes w64 (get_or chunks k d) → HoldsBytes (eight_from rows (8 * k)) x
+chunk_holds rows d chunks k x b e h q =
+    let i : ℕ = 8 * k in
+    eight_holds _ _ _ _ _ _ _ _ x (b i) (b (i + 1)) (b (i + 2)) (b (i + 3)) (b (i + 4)) (b (i + 5)) (b (i + 6)) (b (i + 7))
+    (q ∙ rw (first, at 1 (omega arith), at 2 (omega arith), at 3 (omega arith), at 4 (omega arith), at 5 (omega arith), at 6 (omega arith), at 7 (omega arith)) refl)
+  where
+    at : (j : ℕ) → j < 8 → get_or (get_or chunks k d) j 0 ≡ get_or rows (8 * k + j) 0
+    at j l =
+        ap (λ (c : List (List ℕ)). get_or (get_or c k d) j 0) e ∙ ap (λ (c : List ℕ). get_or c j 0) (chunk_at (length rows / 8) k rows d h)
+        ∙ get_or-take 8 (drop (8 * k) rows) j 0 l ∙ get_or-drop (8 * k) rows j 0
+
+    first : get_or (get_or chunks k d) 0 0 ≡ get_or rows (8 * k) 0
+    first = at 0 (omega arith) ∙ ap (λ (n : ℕ). get_or rows n 0) (add-zero (8 * k))
+
 -- ---- eight at a time: the columns are the bytes of z
 
-pub record EightsTo (rows : List ℕ) (i odd row z : ℕ) : Type 0 where
-  pub eights : i % 8 ≡ 0
-  pub counted : CountedTo rows i odd row (bit_xor wanted (total 8 (byte z)))
+-- the rows of the first k eights are counted
+abbrev pub EightsTo : List ℕ → ℕ → ℕ → ℕ → ℕ → Type 0
+EightsTo rows k odd row z = CountedTo rows (8 * k) odd row (bit_xor wanted (total 8 (byte z)))
 
 pub eights_none : (rows : List ℕ) → EightsTo rows 0 0 0 0
 unfolding count total
 eights_none rows =
     record {
-      eights = refl;
-      counted = record {
-        most = omega arith;
-        few = omega arith;
-        rows_odd = refl;
-        columns_wrong = ap (bit_xor wanted) (total_none 8 (byte 0) (λ k l. none_byte k));
-        inside = λ h. h;
-        row_odd = λ h. absurd (not-suc-le-zero h);
-      };
+      most = omega arith;
+      few = omega arith;
+      rows_odd = refl;
+      columns_wrong = ap (bit_xor wanted) (total_none 8 (byte 0) (λ k l. none_byte k));
+      inside = λ h. h;
+      row_odd = λ h. absurd (not-suc-le-zero h);
     }
 
-module _ (rows : List ℕ) (i odd row z x p odd' row' : ℕ) (t : EightsTo rows i odd row z) (h : i + 8 ≤ length rows) (s : HoldsBytes (eight_from rows i) x) (o : OddBytes x p) where
-  odd_byte : (k : ℕ) → k < 8 → byte p k ≡ ones (get_or rows (i + k) 0) % 2
-  odd_byte k l = o.at k l ∙ ap (λ (r : ℕ). ones r % 2) (holds_at rows i x s k l)
+module _ (rows : List ℕ) (k odd row z x p odd' row' : ℕ) (t : EightsTo rows k odd row z) (h : k < length rows / 8) (s : HoldsBytes (eight_from rows (8 * k)) x) (o : OddBytes x p) where
+  -- the row that this eight begins with, and that it ends before
+  abbrev i : ℕ
+  i = 8 * k
 
-  odd-bit : (k : ℕ) → k < 8 → byte p k ≤ 1
-  odd-bit k l = omega (arith, odd_byte k l)
+  next : 8 * (k + 1) ≡ i + 8
+  next = omega arith
+
+  odd_byte : (j : ℕ) → j < 8 → byte p j ≡ ones (get_or rows (i + j) 0) % 2
+  odd_byte j l = o.at j l ∙ ap (λ (r : ℕ). ones r % 2) (holds_at rows i x s j l)
+
+  odd-bit : (j : ℕ) → j < 8 → byte p j ≤ 1
+  odd-bit j l = omega (arith, odd_byte j l)
 
   counted-here : p % 255 ≡ count 8 (byte p)
   counted-here = bytes_counted 8 p (omega arith) o.small odd-bit
@@ -120,69 +158,58 @@ module _ (rows : List ℕ) (i odd row z x p odd' row' : ℕ) (t : EightsTo rows 
   count_more : count (i + 8) (λ a. ones (get_or rows a 0) % 2) ≡ odd + p % 255
   count_more =
       count_append i 8 (λ a. ones (get_or rows a 0) % 2)
-      ∙ ap₂ ◌+◌ (sym t.counted.rows_odd) (count_same 8 (λ k. ones (get_or rows (i + k) 0) % 2) (byte p) (λ k l. sym (odd_byte k l)) ∙ sym counted-here)
+      ∙ ap₂ ◌+◌ (sym t.rows_odd) (count_same 8 (λ j. ones (get_or rows (i + j) 0) % 2) (byte p) (λ j l. sym (odd_byte j l)) ∙ sym counted-here)
 
   columns-more : bit_xor wanted (total 8 (byte (bit_xor z x))) ≡ bit_xor wanted (total (i + 8) (λ a. get_or rows a 0))
   columns-more =
       let e : total 8 (byte z) ≡ total i (λ a. get_or rows a 0) =
-      sym (xor_undo wanted (total 8 (byte z))) ∙ ap (bit_xor wanted) t.counted.columns_wrong ∙ xor_undo wanted (total i (λ a. get_or rows a 0))
+      sym (xor_undo wanted (total 8 (byte z))) ∙ ap (bit_xor wanted) t.columns_wrong ∙ xor_undo wanted (total i (λ a. get_or rows a 0))
       in ap (bit_xor wanted) (eight_more rows i z x e (holds_at rows i x s))
 
-  pub eights_odd : (p ≡ 0 → ⊥) → (k : ℕ) → SomeByte p k → odd' ≡ odd + p % 255 → row' ≡ i + k → EightsTo rows (i + 8) odd' row' (bit_xor z x)
-  eights_odd d k f e r =
-      let l : k < 8 = f.inside d in
-      record {
-        eights = omega (arith, t.eights);
-        counted = record {
-          most = omega arith;
-          few = omega (arith, t.counted.few, few-here);
-          rows_odd = e ∙ sym count_more;
-          columns_wrong = columns-more;
-          inside = λ _. omega arith;
-          row_odd = λ _. rw r (omega (arith, odd_byte k l, pos_of_not_zero (byte p k) (f.is d)));
-        };
-      }
+  pub eights_odd : (p ≡ 0 → ⊥) → (j : ℕ) → SomeByte p j → odd' ≡ odd + p % 255 → row' ≡ i + j → EightsTo rows (k + 1) odd' row' (bit_xor z x)
+  eights_odd d j f e r =
+      let l : j < 8 = f.inside d in
+      rw next
+      (record {
+        most = omega arith;
+        few = omega (arith, t.few, few-here);
+        rows_odd = e ∙ sym count_more;
+        columns_wrong = columns-more;
+        inside = λ _. omega arith;
+        row_odd = λ _. rw r (omega (arith, odd_byte j l, pos_of_not_zero (byte p j) (f.is d)));
+      })
 
-  pub eights_even : p ≡ 0 → odd' ≡ odd → row' ≡ row → EightsTo rows (i + 8) odd' row' (bit_xor z x)
+  pub eights_even : p ≡ 0 → odd' ≡ odd → row' ≡ row → EightsTo rows (k + 1) odd' row' (bit_xor z x)
   eights_even d e r =
-      record {
-        eights = omega (arith, t.eights);
-        counted = record {
-          most = omega arith;
-          few = omega (arith, t.counted.few);
-          rows_odd = omega (arith, count_more);
-          columns_wrong = columns-more;
-          inside = λ k. rw r (t.counted.inside k);
-          row_odd = λ k. rw r (t.counted.row_odd (omega arith));
-        };
-      }
+      rw next
+      (record {
+        most = omega arith;
+        few = omega (arith, t.few);
+        rows_odd = omega (arith, count_more);
+        columns_wrong = columns-more;
+        inside = λ q. rw r (t.inside q);
+        row_odd = λ q. rw r (t.row_odd (omega arith));
+      })
 
-pub eights_all : (rows : List ℕ) (i odd row z c : ℕ) → EightsTo rows i odd row z → length rows < i + 8 → c ≡ total 8 (byte z)
+pub eights_all : (rows : List ℕ) (k odd row z c : ℕ) → EightsTo rows k odd row z → length rows / 8 ≤ k → k ≤ length rows / 8 → c ≡ total 8 (byte z)
     → CountedTo rows (length rows / 8 * 8) odd row (bit_xor wanted c)
-eights_all rows i odd row z c t h e =
-    let j : i ≡ length rows / 8 * 8 = omega (arith, t.eights, t.counted.most) in
-    rw (e, ← j) t.counted
+eights_all rows k odd row z c t least most e =
+    let j : 8 * k ≡ length rows / 8 * 8 = omega arith in
+    rw (e, ← j) t
 
 -- ---- data rows of seven bits
 
-abbrev pub SevensTo : List ℕ → ℕ → Type 0
-SevensTo given i = (k : ℕ) → k < i → get_or given k 0 ≤ 127
-
-pub sevens_none : (given : List ℕ) → SevensTo given 0
-sevens_none given = below_none (λ (k : ℕ). get_or given k 0 ≤ 127)
-
-pub sevens_more : (given : List ℕ) (i : ℕ) → SevensTo given i → get_or given i 0 ≤ 127 → SevensTo given (i + 1)
-sevens_more given i s h = below_more (λ (k : ℕ). get_or given k 0 ≤ 127) i s h
-
-pub sevens_all : (given : List ℕ) (i : ℕ) → length given ≤ i → SevensTo given i → Tells (Sevens given) true
-sevens_all given i l s = tells_yes (λ k. at k (dec_lt k i))
+-- the test of every row tells it: past the end a row counts as 0
+pub tells_sevens : (given : List ℕ) (b : Bool) → b ≡ list_all (λ x. leb x 127) given → Tells (Sevens given) b
+tells_sevens given true e = tells_yes (λ k. at k (dec_lt k (length given)))
   where
-    at : (k : ℕ) → Dec (k < i) → get_or given k 0 ≤ 127
-    at k (yes h) = s k h
+    at : (k : ℕ) → Dec (k < length given) → get_or given k 0 ≤ 127
+    at k (yes h) = leb-true (get_or given k 0) 127 (AllPass-from_list_all (λ x. leb x 127) given (sym e) k 0 h)
     at k (no h) = rw (get_or-eq_default given 0 {n = k} (omega arith)) (omega arith)
-
-pub sevens_fail : (given : List ℕ) (i : ℕ) → 127 < get_or given i 0 → Tells (Sevens given) false
-sevens_fail given i h = tells_no (λ s. let k : get_or given i 0 ≤ 127 = s i in omega arith)
+tells_sevens given false e =
+    tells_no
+    (λ s. false≢true
+    (e ∙ list_all-from_AllPass (λ x. leb x 127) given (λ k d h. rw (get_or_default_zero given k d h) (le-leb (get_or given k 0) 127 (s k)))))
 
 -- ---- rows with their checks, written over what was there
 

@@ -1,12 +1,11 @@
 -- Each way in which reading a block ends.
-use mathlib.Core.Path.{◌≡◌, sym, ap, ap₂, ◌∙◌}
+use mathlib.Core.Path.{◌≡◌, sym, ap, ◌∙◌}
 use mathlib.Core.Logic.{⊎_elim}
-use mathlib.Core.List.{List, [], ◌∷◌, ◌++◌, append-nil}
+use mathlib.Core.List.{List, [], ◌∷◌}
 use Prim.Native.Nat.{ℕ, ◌+◌, ◌%◌, ◌<◌, ◌≤◌}
 use native.Mathlib.Nat.{eq-or-lt_of_le}
 use native.Mathlib.Omega.{arith}
-use lib.ListN.{length, get_or, set, take, drop, length-set}
-use lib.Seq.{take-length, drop-length}
+use lib.ListN.{length, get_or, set, length-set}
 use lib.Bits.{bit_xor, xor_comm, xor_lt}
 use Rattle.numbers.proofs.Xor.{xor_undo}
 use Rattle.refusal.specs.Promise.{Test}
@@ -39,15 +38,9 @@ module _ (rows old : List ℕ) where
   pub none_near : 2 ≤ length rows → length rows ≤ 64 → length old ≡ length rows → (Mendable rows → ⊥) → Reads rows old (9 ∷ 0 ∷ []) old
   none_near least most room none = refused 2 ((least, most) then room then denied none)
 
--- a copy over an output of the same length leaves nothing of it
-whole : (rows old : List ℕ) → length old ≡ length rows → take (length rows) rows ++ drop (length rows) old ≡ rows
-whole rows old room =
-    ap₂ ◌++◌ (take-length rows) (ap (λ (n : ℕ). drop n old) (sym room) ∙ drop-length old) ∙ append-nil rows
-
 -- the odd row is one of the copy's
-pub row_inside : (rows old copied : List ℕ) (f : Faults) → 2 ≤ length rows → length old ≡ length rows → Counted rows f
-    → copied ≡ take (length rows) rows ++ drop (length rows) old → f.row < length copied
-row_inside rows old copied f least room counted e = rw (e ∙ whole rows old room) (counted.inside (omega arith))
+pub row_inside : (rows copied : List ℕ) (f : Faults) → 2 ≤ length rows → Counted rows f → copied ≡ rows → f.row < length copied
+row_inside rows copied f least counted e = rw e (counted.inside (omega arith))
 
 module _ (rows : List ℕ) (f : Faults) (counted : Counted rows f) where
   -- two odd rows are too many
@@ -114,7 +107,7 @@ module _ (rows : List ℕ) (f : Faults) (counted : Counted rows f) where
             }
 
         -- else the bit where the odd row and the wrong column meet is turned, if there are any
-        pub found : (copied : List ℕ) → copied ≡ take (length rows) rows ++ drop (length rows) old
+        pub found : (copied : List ℕ) → copied ≡ rows
             → Reads rows old (0 ∷ d ∷ []) (set copied f.row (bit_xor (get_or copied f.row 0) f.columns))
         found copied e =
-            rw (e ∙ whole rows old room) (near_reads rows old mended d room near (ends ∙ sym (distance_set rows f.row f.columns inside)))
+            rw e (near_reads rows old mended d room near (ends ∙ sym (distance_set rows f.row f.columns inside)))

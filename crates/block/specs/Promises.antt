@@ -1,23 +1,20 @@
 -- What reading and encoding a block promise: the paper's numbers of each answer, the tests in the paper's order, and what a success gives.
-use Rattle.std.specs.Prelude.{◌≡◌, List, [], ◌∷◌, ℕ, ◌+◌, ◌≤◌, length}
+use Rattle.std.specs.Prelude.{◌≡◌, List, [], ◌∷◌, ℕ, ◌+◌, ◌≤◌, length, Result, Ok, Err}
+use Rattle.refusal.specs.declared.Refusal.{Refusal}
 use Rattle.refusal.specs.declared.Refusal.TheVariants.{ValueOver, OutputLength, RowCount, NoBlock}
 use Rattle.refusal.specs.Number.{number_of}
 use Rattle.refusal.specs.Promise.{Test, ◌else◌, Promise}
-use Rattle.block.specs.declared.BlockReading.{BlockReading}
-use Rattle.block.specs.declared.BlockReading.TheVariants as R
-use Rattle.block.specs.declared.BlockEncoding.{BlockEncoding}
-use Rattle.block.specs.declared.BlockEncoding.TheVariants as E
 use Rattle.block.specs.Block.{distance, Near, Mendable, Sevens, Holds}
 
 -- the numbers of a reading: the answer, and the distance
-abbrev pub reading_numbers : BlockReading → List ℕ
-reading_numbers (R.Block d) = 0 ∷ d ∷ []
-reading_numbers (R.Refused r) = number_of r ∷ 0 ∷ []
+abbrev pub reading_numbers : Result ℕ Refusal → List ℕ
+reading_numbers (Ok d) = 0 ∷ d ∷ []
+reading_numbers (Err r) = number_of r ∷ 0 ∷ []
 
 -- the number of an encoding: the answer
-abbrev pub encoding_numbers : BlockEncoding → List ℕ
-encoding_numbers E.Written = 0 ∷ []
-encoding_numbers (E.Refused r) = number_of r ∷ []
+abbrev pub encoding_numbers : Result Unit Refusal → List ℕ
+encoding_numbers (Ok done) = 0 ∷ []
+encoding_numbers (Err r) = number_of r ∷ []
 
 -- reading asks for 2 to 64 rows, an output as long, and a proper block within one bit
 abbrev pub reading_tests : List ℕ → ℕ → List Test

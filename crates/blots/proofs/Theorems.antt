@@ -5,6 +5,8 @@ use mathlib.Core.List.{List, [], ◌∷◌}
 use Prim.Native.Nat.{ℕ, zero, suc, ◌+◌, ◌<◌, ◌≤◌}
 use native.Mathlib.Omega.{arith}
 use lib.ListN.{length, get_or, replicate}
+use Rattle.std.specs.Prelude.{None, Result}
+use Rattle.refusal.specs.declared.Refusal.{Refusal}
 use Rattle.refusal.specs.Promise.{Answer}
 use Rattle.refusal.proofs.Laws.{passed, Passed}
 use Rattle.refusal.proofs.Ladder.{◌then◌, denied}
@@ -12,7 +14,7 @@ use Rattle.refusal.proofs.Theorems.{one_result}
 use Rattle.field.specs.Field.{α, power}
 use Rattle.polynomial.specs.Sums.{weight}
 use Rattle.polynomial.proofs.Horner.{horner}
-use Rattle.code.specs.Word.{Characters, Line, number, distance, added, nowhere, marks, first_changed, last_changed, listed}
+use Rattle.code.specs.Word.{Characters, number, distance, added, nowhere, marks, first_changed, last_changed, listed}
 use Rattle.code.specs.Inside.{PowerSums}
 use Rattle.code.proofs.Words.{added_zeros, zero_get, length_added, characters_added, characters_below}
 use Rattle.code.proofs.Lines.{line_long, clean_light}
@@ -20,13 +22,11 @@ use Rattle.code.proofs.Distances.{distance_weight, distance_comm, triangle}
 use Rattle.code.proofs.Changes.{First, Last}
 use Rattle.code.proofs.Sums.{horner_sums, power_sum_lt}
 use Rattle.code.proofs.Theorems.{two_lines_clean}
-use Rattle.line.specs.declared.Wanted.TheVariants.{Any}
-use Rattle.line.specs.declared.LineReading.{LineReading}
-use Rattle.line.specs.declared.LineReading.TheVariants as R
+use Rattle.line.specs.declared.Reading.{Reading}
 use Rattle.line.specs.declared.PlainReading.{PlainReading}
 use Rattle.line.specs.Promises.{reading_numbers, plain_numbers, Within, reading_tests, told, Reads}
 use Rattle.line.specs.Inside.{ErrorSums}
-use Rattle.line.proofs.Theorems.{one_line_reading, one_plain, one_reading, told_first, told_last, told_unchanged}
+use Rattle.line.proofs.Theorems.{line_told, one_line_reading, one_plain, one_reading, told_first, told_last, told_unchanged}
 use Rattle.blots.specs.Promises.{Marked, blots, seen, outside, BlottedLine, Legible, blotted_tests, BlottedAs, ReadsBlotted}
 use Rattle.blots.proofs.Seen.{seen_added, seen_all, seen_long, weight_seen, weight_blank}
 use Rattle.blots.proofs.Finding.{line_with}
@@ -78,7 +78,7 @@ module _ (w m : List ℕ) where
   same_blotted old = one_result (blotted_tests w m (length old)) (BlottedAs m w) 4 (λ passed. one-blotted-as passed.1.0 passed.0) old
 
   -- and so any two readings, and plain ones
-  pub one_blotted : (old : List ℕ) (r s : LineReading) (x y : List ℕ) → ReadsBlotted w m old (reading_numbers r) x → ReadsBlotted w m old (reading_numbers s) y
+  pub one_blotted : (old : List ℕ) (r s : Result Reading Refusal) (x y : List ℕ) → ReadsBlotted w m old (reading_numbers r) x → ReadsBlotted w m old (reading_numbers s) y
       → (r ≡ s) × (x ≡ y)
   one_blotted old r s x y p q = let e = same_blotted old (reading_numbers r) (reading_numbers s) x y p q in (one_line_reading r s e.0, e.1)
 
@@ -91,13 +91,13 @@ module _ (w m : List ℕ) where
 module _ (w m old : List ℕ) (long : length w ≡ 63) (wide : length m ≡ 63) (room : length old ≡ 63) (characters : Characters w) (marked : Marked m) where
   -- reading yields the line that differs in e characters outside the f blots, 2 e + f at most 11, with its number, its distance over all addresses, and the
   -- first and the last changed address
-  pub reads_blotted : (l : List ℕ) → BlottedLine m w l → ReadsBlotted w m old (reading_numbers (R.Line (number l) (distance w l) (first_changed w l) (last_changed w l))) l
+  pub reads_blotted : (l : List ℕ) → BlottedLine m w l → ReadsBlotted w m old (reading_numbers (line_told (number l) (distance w l) (first_changed w l) (last_changed w l))) l
   reads_blotted l p = read w m old (told w l) l (long then wide then room then characters then marked then (l, p) then tt) (p, refl)
 
   -- so where there is one, every result is that
-  pub read_blotted : (l : List ℕ) → BlottedLine m w l → (r : LineReading) (x : List ℕ) → ReadsBlotted w m old (reading_numbers r) x
-      → (r ≡ R.Line (number l) (distance w l) (first_changed w l) (last_changed w l)) × (x ≡ l)
-  read_blotted l p r x q = one_blotted w m old r (R.Line (number l) (distance w l) (first_changed w l) (last_changed w l)) x l q (reads_blotted l p)
+  pub read_blotted : (l : List ℕ) → BlottedLine m w l → (r : Result Reading Refusal) (x : List ℕ) → ReadsBlotted w m old (reading_numbers r) x
+      → (r ≡ line_told (number l) (distance w l) (first_changed w l) (last_changed w l)) × (x ≡ l)
+  read_blotted l p r x q = one_blotted w m old r (line_told (number l) (distance w l) (first_changed w l) (last_changed w l)) x l q (reads_blotted l p)
 
   -- and where there is none it refuses, for want of one, and only there
   pub reads_no_line : (Legible m w → ⊥) → ReadsBlotted w m old (6 ∷ 0 ∷ 0 ∷ 0 ∷ 0 ∷ []) old
@@ -165,7 +165,7 @@ module _ (w m old : List ℕ) (numbers x : List ℕ) (reads : ReadsBlotted w m o
 
 -- ---- what a success tells, for every word and map and whatever lay in the output
 
-module _ (w m old : List ℕ) (n d f g : ℕ) (x : List ℕ) (reads : ReadsBlotted w m old (reading_numbers (R.Line n d f g)) x) where
+module _ (w m old : List ℕ) (n d f g : ℕ) (x : List ℕ) (reads : ReadsBlotted w m old (reading_numbers (line_told n d f g)) x) where
   met : Passed (blotted_tests w m (length old))
   unfolding ReadsBlotted
   met = passed (blotted_tests w m (length old)) 0 reads.0 refl
@@ -229,7 +229,7 @@ module _ (w : List ℕ) where
   empty-marked k = subst (λ (v : ℕ). v < 2) (sym (zero_get 63 k)) (omega arith)
 
   module _ (old : List ℕ) where
-    five-answer : (n : ℕ) → Answer (blotted_tests w no_blots (length old)) n → Answer (reading_tests w 5 Any (length old)) n
+    five-answer : (n : ℕ) → Answer (blotted_tests w no_blots (length old)) n → Answer (reading_tests w 5 None (length old)) n
     five-answer n (inr a) = inr a
     five-answer n (inl (lw, inr a)) = absurd (a.0 refl)
     five-answer n (inl (lw, inl (lm, inr a))) = inl (lw, inr a)
@@ -241,7 +241,7 @@ module _ (w : List ℕ) where
         let within : Within 5 w p.0 = as-within lw p.0 p.1 in
         inl (lw, inl (r, inl (c, inl (omega arith, inl (tt, inl ((p.0, within), inl ((p.0, within, tt), a)))))))
 
-    empty-answer : (n : ℕ) → Answer (reading_tests w 5 Any (length old)) n → Answer (blotted_tests w no_blots (length old)) n
+    empty-answer : (n : ℕ) → Answer (reading_tests w 5 None (length old)) n → Answer (blotted_tests w no_blots (length old)) n
     empty-answer n (inr a) = inr a
     empty-answer n (inl (lw, inr a)) = inl (lw, inl (refl, inr a))
     empty-answer n (inl (lw, inl (r, inr a))) = inl (lw, inl (refl, inl (r, inr a)))
@@ -253,20 +253,20 @@ module _ (w : List ℕ) where
     empty-answer n (inl (lw, inl (r, inl (c, inl (t, inl (k, inl (p, inl (q, a)))))))) =
         inl (lw, inl (refl, inl (r, inl (c, inl (empty-marked, inl ((p.0, as-blotted lw p.0 p.1), a))))))
 
-    pub empty_is_five : (numbers x : List ℕ) → ReadsBlotted w no_blots old numbers x → Reads w 5 Any old numbers x
+    pub empty_is_five : (numbers x : List ℕ) → ReadsBlotted w no_blots old numbers x → Reads w 5 None old numbers x
     unfolding ReadsBlotted Reads
     empty_is_five [] x p = p
     empty_is_five (zero ∷ fields) x p =
         (five-answer 0 p.0, (as-within (passed (blotted_tests w no_blots (length old)) 0 p.0 refl).0 x p.1.0, p.1.1))
     empty_is_five (suc n ∷ fields) x p = (five-answer (suc n) p.0, p.1)
 
-    pub five_is_empty : (numbers x : List ℕ) → Reads w 5 Any old numbers x → ReadsBlotted w no_blots old numbers x
+    pub five_is_empty : (numbers x : List ℕ) → Reads w 5 None old numbers x → ReadsBlotted w no_blots old numbers x
     unfolding ReadsBlotted Reads
     five_is_empty [] x p = p
     five_is_empty (zero ∷ fields) x p =
-        (empty-answer 0 p.0, (as-blotted (passed (reading_tests w 5 Any (length old)) 0 p.0 refl).0 x p.1.0, p.1.1))
+        (empty-answer 0 p.0, (as-blotted (passed (reading_tests w 5 None (length old)) 0 p.0 refl).0 x p.1.0, p.1.1))
     five_is_empty (suc n ∷ fields) x p = (empty-answer (suc n) p.0, p.1)
 
     -- so every answer is line reading's, and every byte of the output
-    pub empty_as_line : (r s : LineReading) (x y : List ℕ) → ReadsBlotted w no_blots old (reading_numbers r) x → Reads w 5 Any old (reading_numbers s) y → (r ≡ s) × (x ≡ y)
-    empty_as_line r s x y p = one_reading w 5 Any old r s x y (empty_is_five (reading_numbers r) x p)
+    pub empty_as_line : (r s : Result Reading Refusal) (x y : List ℕ) → ReadsBlotted w no_blots old (reading_numbers r) x → Reads w 5 None old (reading_numbers s) y → (r ≡ s) × (x ≡ y)
+    empty_as_line r s x y p = one_reading w 5 None old r s x y (empty_is_five (reading_numbers r) x p)

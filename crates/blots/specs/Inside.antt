@@ -1,5 +1,5 @@
 -- What the inner functions of reading with blots promise each other: errors with given sums, few of them outside the blots, and how a blot's place is cleared.
-use Rattle.std.specs.Prelude.{◌≡◌, true, false, List, ℕ, suc, ◌+◌, ◌-◌, ◌*◌, ◌/◌, ◌%◌, ◌^◌, ◌<◌, ◌≤◌, length, get_or}
+use Rattle.std.specs.Prelude.{◌≡◌, List, Option, Some, None, ℕ, suc, ◌+◌, ◌-◌, ◌*◌, ◌/◌, ◌%◌, ◌^◌, ◌<◌, ◌≤◌, length, get_or}
 use Rattle.field.specs.Field.{sum, product, α, power}
 use Rattle.polynomial.specs.Sums.{weight}
 use Rattle.code.specs.Word.{Characters, power_sum, added}
@@ -13,18 +13,27 @@ use Rattle.blots.specs.declared.Errors.{Errors}
 pub record NoneBefore (bs : List ℕ) (n : ℕ) : Type 0 where
   pub zero : (k : ℕ) → k < n → get_or bs k 0 ≡ 0
 
--- the first of 63, or 63
-pub record FirstSet (bs : List ℕ) (n : ℕ) : Type 0 where
-  pub most : n ≤ 63
+-- the first of 63 is n
+pub record FirstAt (bs : List ℕ) (n : ℕ) : Type 0 where
+  pub inside : n < 63
   pub before : (k : ℕ) → k < n → get_or bs k 0 ≡ 0
-  pub there : n < 63 → get_or bs n 0 ≡ 0 → ⊥
+  pub there : get_or bs n 0 ≡ 0 → ⊥
 
--- the last of 63, or 63: then there is none
-pub record LastSet (bs : List ℕ) (n : ℕ) : Type 0 where
-  pub most : n ≤ 63
+-- the last is n
+pub record LastAt (bs : List ℕ) (n : ℕ) : Type 0 where
+  pub inside : n < 63
   pub after : (k : ℕ) → n < k → k < 63 → get_or bs k 0 ≡ 0
-  pub there : n < 63 → get_or bs n 0 ≡ 0 → ⊥
-  pub none : n ≡ 63 → (k : ℕ) → k < 63 → get_or bs k 0 ≡ 0
+  pub there : get_or bs n 0 ≡ 0 → ⊥
+
+-- the first of 63, or there is none
+abbrev pub FirstSet : List ℕ → Option ℕ → Type 0
+FirstSet bs (Some n) = FirstAt bs n
+FirstSet bs None = NoneBefore bs 63
+
+-- and the last
+abbrev pub LastSet : List ℕ → Option ℕ → Type 0
+LastSet bs (Some n) = LastAt bs n
+LastSet bs None = NoneBefore bs 63
 
 -- each of 63 that is not 0 has its bit set
 pub record Holds (set : ℕ) (bs : List ℕ) : Type 0 where
@@ -39,23 +48,44 @@ pub record FitsBlotted (s : List ℕ) (c : ℕ) (m x : List ℕ) : Type 0 where
   pub few : 2 * weight (seen m x) + blots m ≤ c
   pub sums : (k : ℕ) → k < c → get_or s k 0 ≡ power_sum (58 + k) x
 
+-- those that fit, with a bit set for each that is not 0
+pub record Found (s : List ℕ) (c : ℕ) (m : List ℕ) (r : Errors) : Type 0 where
+  pub fits : FitsBlotted s c m r.word
+  pub holds : Holds r.set r.word
+
+-- none fit
+pub record NoneFits (s : List ℕ) (c : ℕ) (m : List ℕ) : Type 0 where
+  pub none : (x : List ℕ) → FitsBlotted s c m x → ⊥
+
 -- those that fit, or none do
-pub record Finds (s : List ℕ) (c : ℕ) (m : List ℕ) (r : Errors) : Type 0 where
-  pub fits : r.found ≡ true → FitsBlotted s c m r.word
-  pub holds : r.found ≡ true → Holds r.set r.word
-  pub none : r.found ≡ false → (x : List ℕ) → FitsBlotted s c m x → ⊥
+abbrev pub Finds : List ℕ → ℕ → List ℕ → Option Errors → Type 0
+Finds s c m (Some r) = Found s c m r
+Finds s c m None = NoneFits s c m
 
 -- the same where there is no blot
-pub record FindsWithout (s : List ℕ) (c : ℕ) (r : Errors) : Type 0 where
-  pub fits : r.found ≡ true → Fits s c (c / 2) r.word
-  pub holds : r.found ≡ true → Holds r.set r.word
-  pub none : r.found ≡ false → (x : List ℕ) → Fits s c (c / 2) x → ⊥
+pub record FoundWithout (s : List ℕ) (c : ℕ) (r : Errors) : Type 0 where
+  pub fits : Fits s c (c / 2) r.word
+  pub holds : Holds r.set r.word
 
--- errors with which a word of 63 characters is the line, or there is no such line
-pub record FindsNear (w m : List ℕ) (r : Errors) : Type 0 where
-  pub long : r.found ≡ true → length r.word ≡ 63
-  pub is : r.found ≡ true → length w ≡ 63 → Characters w → BlottedLine m w (added w r.word)
-  pub none : r.found ≡ false → length w ≡ 63 → Characters w → (l : List ℕ) → BlottedLine m w l → ⊥
+pub record NoneWithout (s : List ℕ) (c : ℕ) : Type 0 where
+  pub none : (x : List ℕ) → Fits s c (c / 2) x → ⊥
+
+abbrev pub FindsWithout : List ℕ → ℕ → Option Errors → Type 0
+FindsWithout s c (Some r) = FoundWithout s c r
+FindsWithout s c None = NoneWithout s c
+
+-- errors with which a word of 63 characters is the line
+pub record FoundNear (w m : List ℕ) (r : Errors) : Type 0 where
+  pub long : length r.word ≡ 63
+  pub is : length w ≡ 63 → Characters w → BlottedLine m w (added w r.word)
+
+-- there is no such line
+pub record NoneNear (w m : List ℕ) : Type 0 where
+  pub none : length w ≡ 63 → Characters w → (l : List ℕ) → BlottedLine m w l → ⊥
+
+abbrev pub FindsNear : List ℕ → List ℕ → Option Errors → Type 0
+FindsNear w m (Some r) = FoundNear w m r
+FindsNear w m None = NoneNear w m
 
 -- ---- a blot's place
 

@@ -22,7 +22,7 @@ pub fn place(address: usize) -> u8
 pub fn cleared(sums: Sums, place: u8) -> Sums
     ensures { Cleared (eleven sums) place (eleven result) }
 {
-    let next = sums.first / 64 % NINE_LANES + (sums.last % 64) as u64 * NINE_LANES;
+    let next = sums.first / 64 % NINE_LANES + u64::from(sums.last % 64) * NINE_LANES;
     Sums {
         first: next ^ lanes::scale(sums.first, place),
         last: 0,
@@ -40,6 +40,7 @@ pub fn restored(cleared: [u8; 63], set: u64, blot: usize, first: u8) -> [u8; 63]
     let mut w = cleared;
     let mut left = first;
     let mut a = planes::first_from(set, 0);
+    // A while: it goes from one set bit to the next, and the library has no iterator that gives these.
     while a < LINE {
         if w[a] != 0 {
             let v = divided(w[a], a, blot);

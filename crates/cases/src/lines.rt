@@ -1,13 +1,8 @@
-// The calls that read lines, one, by the method of 1968 too, one with blots or a spool of them: what is told of a line is printed in one way.
-ghost use Rattle.std.specs.Prelude.{◌≤◌};
-
-use super::{print, print_bytes, print_number, print_numbers};
+// The calls that read lines: one, by the method of 1968 too, one with blots, a spool, or the better of two scans. All tell of a line in one way.
+use super::show::{parts, print_bytes, print_numbers, show};
 use line::PlainReading;
 use std::io;
 use std::io::Write;
-
-// How many places the answer for a spool has.
-const PLACES: usize = 255;
 
 pub fn read_line(
     out: &mut impl Write,
@@ -16,7 +11,7 @@ pub fn read_line(
     output: &mut [u8],
 ) -> io::Result<()> {
     let given = film::film_read_line(word, radius, output);
-    show_reading(out, b"read_line", given, output)
+    show(out, b"read_line", &numbers_of(given), output)
 }
 
 pub fn read_line_wanted(
@@ -27,7 +22,7 @@ pub fn read_line_wanted(
     output: &mut [u8],
 ) -> io::Result<()> {
     let given = film::film_read_line_wanted(word, radius, wanted, output);
-    show_reading(out, b"read_line_wanted", given, output)
+    show(out, b"read_line_wanted", &numbers_of(given), output)
 }
 
 pub fn read_line_paper(
@@ -37,7 +32,7 @@ pub fn read_line_paper(
     output: &mut [u8],
 ) -> io::Result<()> {
     let given = film::film_read_line_paper(word, radius, output);
-    show_reading(out, b"read_line_paper", given, output)
+    show(out, b"read_line_paper", &numbers_of(given), output)
 }
 
 pub fn read_line_paper_wanted(
@@ -48,31 +43,19 @@ pub fn read_line_paper_wanted(
     output: &mut [u8],
 ) -> io::Result<()> {
     let given = film::film_read_line_paper_wanted(word, radius, wanted, output);
-    show_reading(out, b"read_line_paper_wanted", given, output)
+    show(out, b"read_line_paper_wanted", &numbers_of(given), output)
 }
 
-fn read_blotted(
-    out: &mut impl Write,
-    word: &[u8],
-    map: &[u8],
-    output: &mut [u8],
-) -> io::Result<()> {
-    let given = film::film_read_blotted(word, map, output);
-    show_reading(out, b"read_blotted", given, output)
-}
-
-// The same of a word and its map that stand one after the other, the word of a length, or of all there is.
-pub fn read_with_map(
+// A word and its map stand one after the other, the word of a length, or of all there is.
+pub fn read_blotted(
     out: &mut impl Write,
     both: &[u8],
-    length: usize,
+    length: u16,
     output: &mut [u8],
 ) -> io::Result<()> {
-    if length <= both.len() {
-        read_blotted(out, &both[..length], &both[length..], output)
-    } else {
-        read_blotted(out, both, &both[..0], output)
-    }
+    let (word, map) = parts(both, length);
+    let given = film::film_read_blotted(word, map, output);
+    show(out, b"read_blotted", &numbers_of(given), output)
 }
 
 pub fn read_spool(
@@ -82,63 +65,50 @@ pub fn read_spool(
     output: &mut [u8],
 ) -> io::Result<()> {
     let given = film::film_read_spool(lines, radius, output);
-    let places = given.places;
-    print(out, b"read_spool")?;
-    print_number(out, given.answer as u16)?;
-    print_places(out, places)?;
+    out.write_all(b"read_spool")?;
+    print_numbers(out, &[u16::from(given.answer)])?;
+    print_places(out, &given.places)?;
     print_bytes(out, output)
 }
 
-// Prints a call's name, what it told of a line and the output.
-fn show_reading(
-    out: &mut impl Write,
-    name: &[u8],
-    reading: PlainReading,
-    output: &[u8],
-) -> io::Result<()> {
-    print(out, name)?;
-    print_reading(out, reading)?;
-    print_bytes(out, output)
-}
-
-fn print_reading(out: &mut impl Write, reading: PlainReading) -> io::Result<()> {
-    print_numbers(
+// Which of two scans is kept, as a C program is told, and its bytes, as they are handed back.
+// The scans stand one after the other, the first of a length, or of all there is.
+pub fn better_scan(out: &mut impl Write, both: &[u8], length: u16, radius: u8) -> io::Result<()> {
+    let (first, second) = parts(both, length);
+    let given = film::film_better_scan(first, second, radius);
+    let mut answer: u8 = 0;
+    let kept = scans::better_scan(first, second, radius, &mut answer);
+    show(
         out,
+        b"better_scan",
         &[
-            reading.answer as u16,
-            reading.number,
-            reading.distance as u16,
-            reading.first as u16,
-            reading.last as u16,
+            u16::from(given.answer),
+            u16::from(given.scan),
+            u16::from(answer),
         ],
+        kept,
     )
 }
 
+// What is told of a line.
+fn numbers_of(reading: PlainReading) -> [u16; 5] {
+    [
+        u16::from(reading.answer),
+        reading.number,
+        u16::from(reading.distance),
+        u16::from(reading.first),
+        u16::from(reading.last),
+    ]
+}
+
 // Prints the numbers of each place, up to the last that does not hold only zeros.
-fn print_places(out: &mut impl Write, places: [PlainReading; PLACES]) -> io::Result<()> {
-    let count = count_held(places);
+fn print_places(out: &mut impl Write, places: &[PlainReading]) -> io::Result<()> {
+    let held = places
+        .iter()
+        .rposition(|place| numbers_of(*place) != [0; 5]);
+    let count = held.map_or(0, |last| last + 1);
     for place in &places[..count] {
-        print_reading(out, *place)?;
+        print_numbers(out, &numbers_of(*place))?;
     }
     Ok(())
-}
-
-// How many places there are up to the last that does not hold only zeros.
-fn count_held(places: [PlainReading; PLACES]) -> usize
-    ensures { result ≤ 255 }
-{
-    let mut n: usize = PLACES;
-    while n > 0 && is_zero(places[n - 1]) {
-        n -= 1;
-    }
-    n
-}
-
-// Whether a place holds only zeros.
-fn is_zero(place: PlainReading) -> bool {
-    place.answer == 0
-        && place.distance == 0
-        && place.number == 0
-        && place.first == 0
-        && place.last == 0
 }

@@ -29,21 +29,22 @@
 // constant, and makes the cases (second/cases.rs).
 #![tactic(auto)]
 
-ghost use Rattle.std.specs.Prelude.{◌≡◌, ◌≤◌, ◌++◌, length, OnOk, codes, decimal};
-ghost use Rattle.std.specs.Io.KnownBytes.{Appends};
-ghost use Rattle.streams.specs.Hex.{hex};
+ghost use Rattle.std.specs.Prelude.{◌≡◌, length};
 
-use film::FilmElement;
-use film::recorder::FilmRegister;
 use std::io;
 use std::io::{BufReader, BufWriter, Read, Write};
 
 mod blocks;
 mod clarities;
+mod elements;
 mod lines;
 mod open_trays;
+mod registers;
+mod rings;
 mod sheets;
+mod show;
 
+// The calls. Numbers and no enum: a call is a byte of standard input, and one that is none of these is passed over.
 const SUM: u8 = 1;
 
 const PRODUCT: u8 = 2;
@@ -108,270 +109,62 @@ const LONGEST: usize = 65535;
 // The most cases of a run, so that it ends whatever the input is.
 const MOST_CASES: u32 = 1000000;
 
-fn print<W: Write>(out: &mut W, text: &[u8]) -> io::Result<()>
-    ensures { OnOk result (Appends (W.contents out.old) (W.contents out.new) text.now) }
-{
-    out.write_all(text)
-}
-
-// Prints a byte as two hexadecimal digits.
-fn print_byte<W: Write>(out: &mut W, x: u8) -> io::Result<()>
-    ensures { OnOk result (Appends (W.contents out.old) (W.contents out.new) (hex 2 x)) }
-{
-    streams::print_hex(out, x as u64, 2)
-}
-
-// Prints a space and a number.
-fn print_number<W: Write>(out: &mut W, n: u16) -> io::Result<()>
-    ensures { OnOk result (Appends (W.contents out.old) (W.contents out.new) (codes " " ++ decimal n)) }
-{
-    print(out, b" ")?;
-    streams::print_decimal(out, n as u64)
-}
-
-// Prints the numbers of an answer.
-fn print_numbers(out: &mut impl Write, numbers: &[u16]) -> io::Result<()> {
-    for x in numbers {
-        print_number(out, *x)?;
-    }
-    Ok(())
-}
-
-// Prints a space and the bytes, in brackets, and ends the line.
-fn print_bytes(out: &mut impl Write, bytes: &[u8]) -> io::Result<()> {
-    print(out, b" [")?;
-    for x in bytes {
-        print_byte(out, *x)?;
-    }
-    print(out, b"]\n")
-}
-
-// Prints a call's name, the numbers of its answer and the bytes that go with them.
-fn show(out: &mut impl Write, name: &[u8], numbers: &[u16], bytes: &[u8]) -> io::Result<()> {
-    print(out, name)?;
-    print_numbers(out, numbers)?;
-    print_bytes(out, bytes)
-}
-
-// A case of no call that is known.
-fn pass_over(out: &mut impl Write) -> io::Result<()> {
-    print(out, b"passed over\n")
-}
-
-// An operation of the field: a sum, a product, and else a quotient.
-fn element_of(call: u8, u: u8, v: u8) -> FilmElement {
-    match call {
-        SUM => film::film_sum(u, v),
-        PRODUCT => film::film_product(u, v),
-        _ => film::film_quotient(u, v),
-    }
-}
-
-// The name of such an operation.
-fn print_operation(out: &mut impl Write, call: u8) -> io::Result<()> {
-    match call {
-        SUM => print(out, b"sum"),
-        PRODUCT => print(out, b"product"),
-        _ => print(out, b"quotient"),
-    }
-}
-
-// Prints a space and the value, or `r` and the refusal.
-fn print_element(out: &mut impl Write, element: FilmElement) -> io::Result<()> {
-    if element.answer == 0 {
-        print(out, b" ")?;
-        print_byte(out, element.value)
-    } else {
-        print(out, b" r")?;
-        streams::print_decimal(out, element.answer as u64)
-    }
-}
-
-// A row of sums, products or quotients, with one first operand.
-fn row(out: &mut impl Write, call: u8, u: u8, seconds: &[u8]) -> io::Result<()> {
-    print_operation(out, call)?;
-    for x in seconds {
-        print_element(out, element_of(call, u, *x))?;
-    }
-    print(out, b"\n")
-}
-
-fn encode_line(
-    out: &mut impl Write,
-    text: &[u8],
-    number: u16,
-    output: &mut [u8],
-) -> io::Result<()> {
-    let answer = film::film_encode_line(text, number, output);
-    show(out, b"encode_line", &[answer as u16], output)
-}
-
-// A byte, and 0 past the end.
-fn byte_at(bytes: &[u8], i: usize) -> u8 {
-    if i < bytes.len() { bytes[i] } else { 0 }
-}
-
-// A register from the characters held and its count.
-fn register_of(held: &[u8], count: u16) -> FilmRegister {
-    let eleven = [
-        byte_at(held, 0),
-        byte_at(held, 1),
-        byte_at(held, 2),
-        byte_at(held, 3),
-        byte_at(held, 4),
-        byte_at(held, 5),
-        byte_at(held, 6),
-        byte_at(held, 7),
-        byte_at(held, 8),
-        byte_at(held, 9),
-        byte_at(held, 10),
-    ];
-    FilmRegister {
-        held: eleven,
-        count: (count % 256) as u8,
-    }
-}
-
-fn step(out: &mut impl Write, held: &[u8], count: u16, c: u8) -> io::Result<()> {
-    let given = film::recorder::film_step(register_of(held, count), c);
-    let after = given.register;
-    let left = after.held;
-    show(
-        out,
-        b"step",
-        &[given.answer as u16, after.count as u16],
-        &left,
-    )
-}
-
-fn checks(out: &mut impl Write, held: &[u8], count: u16) -> io::Result<()> {
-    let given = film::recorder::film_checks(register_of(held, count));
-    let checks = given.checks;
-    show(out, b"checks", &[given.answer as u16], &checks)
-}
-
-fn list_ring(out: &mut impl Write, ring: &[u8], radius: u8, output: &mut [u8]) -> io::Result<()> {
-    let given = film::film_list_ring(ring, radius, output);
-    show(
-        out,
-        b"list_ring",
-        &[given.answer as u16, given.count as u16],
-        output,
-    )
-}
-
-fn read_ring(out: &mut impl Write, ring: &[u8], radius: u8, output: &mut [u8]) -> io::Result<()> {
-    let given = film::film_read_ring(ring, radius, output);
-    show(
-        out,
-        b"read_ring",
-        &[
-            given.answer as u16,
-            given.start as u16,
-            given.number,
-            given.distance as u16,
-            given.first as u16,
-            given.last as u16,
-        ],
-        output,
-    )
-}
-
-// Which of two scans is kept, as a C program is told, and its bytes, as they are handed back.
-fn better_scan<'a>(
-    out: &mut impl Write,
-    first: &'a [u8],
-    second: &'a [u8],
-    radius: u8,
-) -> io::Result<()> {
-    let given = film::film_better_scan(first, second, radius);
-    let mut answer: u8 = 0;
-    let kept = scans::better_scan(first, second, radius, &mut answer);
-    show(
-        out,
-        b"better_scan",
-        &[given.answer as u16, given.scan as u16, answer as u16],
-        kept,
-    )
-}
-
-// The same of two scans that stand one after the other, the first of a length, or of all there is.
-fn better_of_two(out: &mut impl Write, both: &[u8], length: usize, radius: u8) -> io::Result<()> {
-    if length <= both.len() {
-        better_scan(out, &both[..length], &both[length..], radius)
-    } else {
-        better_scan(out, both, &both[..0], radius)
-    }
-}
-
-fn panel_text(out: &mut impl Write, text: &[u8], output: &mut [u8]) -> io::Result<()> {
-    let given = film::film_panel_text(text, output);
-    show(
-        out,
-        b"panel_text",
-        &[given.answer as u16, given.length],
-        output,
-    )
-}
-
-fn panel_ring(out: &mut impl Write, ring: &[u8], radius: u8, output: &mut [u8]) -> io::Result<()> {
-    let given = film::film_panel_ring(ring, radius, output);
-    show(
-        out,
-        b"panel_ring",
-        &[given.answer as u16, given.length],
-        output,
-    )
-}
-
-// Hands a case to the function of its call.
-fn hand_over(
-    out: &mut impl Write,
+// What a head says.
+#[derive(Clone, Copy)]
+struct Head {
     call: u8,
     small: u8,
     number: u16,
-    input: &[u8],
-    output: &mut [u8],
-) -> io::Result<()> {
-    match call {
-        SUM | PRODUCT | QUOTIENT => row(out, call, small, input),
-        ENCODE_LINE => encode_line(out, input, number, output),
-        STEP => step(out, input, number, small),
-        CHECKS => checks(out, input, number),
-        READ_LINE => lines::read_line(out, input, small, output),
-        READ_LINE_WANTED => lines::read_line_wanted(out, input, small, number, output),
-        LIST_RING => list_ring(out, input, small, output),
-        READ_RING => read_ring(out, input, small, output),
-        ENCODE_BLOCK => blocks::encode_block(out, input, output),
-        READ_BLOCK => blocks::read_block(out, input, output),
-        BETTER_SCAN => better_of_two(out, input, wide(number), small),
-        PANEL_TEXT => panel_text(out, input, output),
-        PANEL_RING => panel_ring(out, input, small, output),
-        READ_SPOOL => lines::read_spool(out, input, small, output),
-        READ_BLOTTED => lines::read_with_map(out, input, wide(number), output),
-        READ_LINE_PAPER => lines::read_line_paper(out, input, small, output),
-        READ_LINE_PAPER_WANTED => lines::read_line_paper_wanted(out, input, small, number, output),
-        READ_SHEET => sheets::read_sheet(out, input, output),
-        ENCODE_SHEET => sheets::encode_from(out, input, wide(number), output),
-        OPEN_TRAY => open_trays::open_tray(out, input, wide(number), small),
-        ENCODE_SMUDGE => blocks::encode_smudge(out, input, output),
-        READ_SMUDGE => blocks::read_smudge(out, input, output),
-        SCAN_CLARITY => clarities::scan_clarity(out, input, small),
-        SPOOL_CLARITY => clarities::spool_clarity(out, input, wide(number), small),
-        _ => pass_over(out),
+    room: u16,
+    length: u16,
+}
+
+impl From<[u8; HEAD]> for Head {
+    fn from(bytes: [u8; HEAD]) -> Head {
+        let [call, small, a, b, c, d, e, f] = bytes;
+        Head {
+            call,
+            small,
+            number: u16::from_be_bytes([a, b]),
+            room: u16::from_be_bytes([c, d]),
+            length: u16::from_be_bytes([e, f]),
+        }
     }
 }
 
-// A number of two bytes.
-fn joined(high: u8, low: u8) -> u16 {
-    high as u16 * 256 + low as u16
-}
-
-// A number of two bytes as a length.
-fn wide(n: u16) -> usize
-    ensures { result ≤ 65535 }
-{
-    n as usize
+// Hands a case to the function of its call.
+fn hand_over(out: &mut impl Write, head: Head, input: &[u8], output: &mut [u8]) -> io::Result<()> {
+    let small = head.small;
+    let number = head.number;
+    match head.call {
+        SUM => elements::row(out, b"sum", |v| film::film_sum(small, v), input),
+        PRODUCT => elements::row(out, b"product", |v| film::film_product(small, v), input),
+        QUOTIENT => elements::row(out, b"quotient", |v| film::film_quotient(small, v), input),
+        ENCODE_LINE => registers::encode_line(out, input, number, output),
+        STEP => registers::step(out, input, number, small),
+        CHECKS => registers::checks(out, input, number),
+        READ_LINE => lines::read_line(out, input, small, output),
+        READ_LINE_WANTED => lines::read_line_wanted(out, input, small, number, output),
+        LIST_RING => rings::list_ring(out, input, small, output),
+        READ_RING => rings::read_ring(out, input, small, output),
+        ENCODE_BLOCK => blocks::encode_block(out, input, output),
+        READ_BLOCK => blocks::read_block(out, input, output),
+        BETTER_SCAN => lines::better_scan(out, input, number, small),
+        PANEL_TEXT => rings::panel_text(out, input, output),
+        PANEL_RING => rings::panel_ring(out, input, small, output),
+        READ_SPOOL => lines::read_spool(out, input, small, output),
+        READ_BLOTTED => lines::read_blotted(out, input, number, output),
+        READ_LINE_PAPER => lines::read_line_paper(out, input, small, output),
+        READ_LINE_PAPER_WANTED => lines::read_line_paper_wanted(out, input, small, number, output),
+        READ_SHEET => sheets::read_sheet(out, input, output),
+        ENCODE_SHEET => sheets::encode_sheet(out, input, number, output),
+        OPEN_TRAY => open_trays::open_tray(out, input, number, small),
+        ENCODE_SMUDGE => blocks::encode_smudge(out, input, output),
+        READ_SMUDGE => blocks::read_smudge(out, input, output),
+        SCAN_CLARITY => clarities::scan_clarity(out, input, small),
+        SPOOL_CLARITY => clarities::spool_clarity(out, input, number, small),
+        _ => show::pass_over(out),
+    }
 }
 
 // The longest output, as it is lent; also room for the longest input.
@@ -382,24 +175,16 @@ fn untouched() -> [u8; LONGEST]
 }
 
 // Runs a case, with an output of the length that it names.
-fn run_case(out: &mut impl Write, head: [u8; HEAD], input: &[u8]) -> io::Result<()> {
+fn run_case(out: &mut impl Write, head: Head, input: &[u8]) -> io::Result<()> {
     let mut output = untouched();
-    let room = wide(joined(head[4], head[5]));
-    hand_over(
-        out,
-        head[0],
-        head[1],
-        joined(head[2], head[3]),
-        input,
-        &mut output[..room],
-    )
+    hand_over(out, head, input, &mut output[..usize::from(head.room)])
 }
 
 // Fills the input of a case and runs the case, or tells that standard input ends first.
 fn filled_case(
     from: &mut impl Read,
     out: &mut impl Write,
-    head: [u8; HEAD],
+    head: Head,
     input: &mut [u8],
 ) -> io::Result<bool> {
     if streams::read_full(from, input)? < input.len() {
@@ -411,13 +196,13 @@ fn filled_case(
 
 // Takes the next case and runs it, or tells that standard input ends first.
 fn next_case(from: &mut impl Read, out: &mut impl Write) -> io::Result<bool> {
-    let mut head = [0u8; HEAD];
-    if streams::read_full(from, &mut head)? < HEAD {
+    let mut bytes = [0u8; HEAD];
+    if streams::read_full(from, &mut bytes)? < HEAD {
         return Ok(false);
     }
+    let head = Head::from(bytes);
     let mut input = untouched();
-    let n = wide(joined(head[6], head[7]));
-    filled_case(from, out, head, &mut input[..n])
+    filled_case(from, out, head, &mut input[..usize::from(head.length)])
 }
 
 // Runs so many cases, or as many as there are.

@@ -3,7 +3,7 @@ ghost use Rattle.std.specs.Prelude.{◌++◌, OnOk, codes};
 ghost use Rattle.std.specs.Io.KnownBytes.{Appends};
 ghost use Rattle.streams.specs.Hex.{hex};
 
-use super::{joined, pass_over, print, print_byte, print_number, print_numbers, wide};
+use super::show::{parts, pass_over, print_byte, print_numbers};
 use std::io;
 use std::io::Write;
 
@@ -14,7 +14,7 @@ const HELD: usize = 4736;
 
 const COUNT: usize = 4737;
 
-// The length of a step, and what its first byte says.
+// The length of a step, and what its first byte says. Numbers and no enum: any other byte is passed over.
 const STEP: usize = 4;
 
 const ADD: u8 = 1;
@@ -39,45 +39,43 @@ fn empty(byte: u8) -> [u8; TRAY] {
 fn print_change<W: Write>(out: &mut W, place: usize, byte: u8) -> io::Result<()>
     ensures { OnOk result (Appends (W.contents out.old) (W.contents out.new) (codes " " ++ hex 4 place ++ codes ":" ++ hex 2 byte)) }
 {
-    print(out, b" ")?;
+    out.write_all(b" ")?;
     streams::print_hex(out, place as u64, 4)?;
-    print(out, b":")?;
+    out.write_all(b":")?;
     print_byte(out, byte)
 }
 
-// Prints what a tray has where it had something else, and ends the line.
-fn print_changes(out: &mut impl Write, before: &[u8; TRAY], after: &[u8; TRAY]) -> io::Result<()> {
-    for i in 0..TRAY {
-        if before[i] != after[i] {
-            print_change(out, i, after[i])?;
+// Prints an operation's name and answer, and what the tray has where it had something else, and ends the line.
+fn print_edit(
+    out: &mut impl Write,
+    name: &[u8],
+    answer: u8,
+    before: &[u8; TRAY],
+    after: &[u8; TRAY],
+) -> io::Result<()> {
+    out.write_all(name)?;
+    print_numbers(out, &[u16::from(answer)])?;
+    for (place, (was, is)) in before.iter().zip(after).enumerate() {
+        if was != is {
+            print_change(out, place, *is)?;
         }
     }
-    print(out, b"\n")
-}
-
-fn add(out: &mut impl Write, tray: &mut [u8; TRAY], line: &[u8]) -> io::Result<()> {
-    let before = *tray;
-    let answer = film::trays::film_tray_add(tray, line);
-    print(out, b"tray_add")?;
-    print_number(out, answer as u16)?;
-    print_changes(out, &before, tray)
+    out.write_all(b"\n")
 }
 
 // Adds a part of the lines, or nothing where they end before it does.
-fn add_part(
+fn add(
     out: &mut impl Write,
     tray: &mut [u8; TRAY],
     lines: &[u8],
     start: u16,
     length: u8,
 ) -> io::Result<()> {
-    let from = wide(start);
-    let to = from + length as usize;
-    if to <= lines.len() {
-        add(out, tray, &lines[from..to])
-    } else {
-        add(out, tray, &lines[..0])
-    }
+    let start = usize::from(start);
+    let line = lines.get(start..start + usize::from(length)).unwrap_or(&[]);
+    let before = *tray;
+    let answer = film::trays::film_tray_add(tray, line);
+    print_edit(out, b"tray_add", answer, &before, tray)
 }
 
 fn replace(
@@ -89,30 +87,26 @@ fn replace(
 ) -> io::Result<()> {
     let before = *tray;
     let answer = film::trays::film_tray_replace(tray, line, address, character);
-    print(out, b"tray_replace")?;
-    print_number(out, answer as u16)?;
-    print_changes(out, &before, tray)
+    print_edit(out, b"tray_replace", answer, &before, tray)
 }
 
 fn drop_last(out: &mut impl Write, tray: &mut [u8; TRAY]) -> io::Result<()> {
     let before = *tray;
     let answer = film::trays::film_tray_drop(tray);
-    print(out, b"tray_drop")?;
-    print_number(out, answer as u16)?;
-    print_changes(out, &before, tray)
+    print_edit(out, b"tray_drop", answer, &before, tray)
 }
 
 fn ask(out: &mut impl Write, tray: &[u8; TRAY]) -> io::Result<()> {
     let given = film::trays::film_tray_count(tray);
-    print(out, b"tray_count")?;
-    print_numbers(out, &[given.answer as u16, given.count as u16])?;
-    print(out, b"\n")
+    out.write_all(b"tray_count")?;
+    print_numbers(out, &[u16::from(given.answer), u16::from(given.count)])?;
+    out.write_all(b"\n")
 }
 
 // Writes a byte by hand. Past the tray there is no place for it.
-fn write(tray: &mut [u8; TRAY], place: usize, byte: u8) {
-    if place < TRAY {
-        tray[place] = byte;
+fn write(tray: &mut [u8; TRAY], place: u16, byte: u8) {
+    if let Some(at) = tray.get_mut(usize::from(place)) {
+        *at = byte;
     }
 }
 
@@ -120,49 +114,29 @@ fn take_step(
     out: &mut impl Write,
     tray: &mut [u8; TRAY],
     lines: &[u8],
-    kind: u8,
-    a: u8,
-    b: u8,
-    c: u8,
+    step: [u8; STEP],
 ) -> io::Result<()> {
+    let [kind, a, b, c] = step;
     match kind {
-        ADD => add_part(out, tray, lines, joined(a, b), c),
+        ADD => add(out, tray, lines, u16::from_be_bytes([a, b]), c),
         REPLACE => replace(out, tray, a, b, c),
         DROP => drop_last(out, tray),
         ASK => ask(out, tray),
         WRITE => {
-            write(tray, wide(joined(a, b)), c);
+            write(tray, u16::from_be_bytes([a, b]), c);
             Ok(())
         }
         _ => pass_over(out),
     }
 }
 
-// Takes each step from an empty tray on.
-fn take_steps(out: &mut impl Write, byte: u8, lines: &[u8], steps: &[u8]) -> io::Result<()> {
-    print(out, b"open_tray\n")?;
+// Takes each step from an empty tray on. The lines and the steps stand one after the other, the lines of a length, or of all there is.
+pub fn open_tray(out: &mut impl Write, both: &[u8], length: u16, byte: u8) -> io::Result<()> {
+    out.write_all(b"open_tray\n")?;
+    let (lines, steps) = parts(both, length);
     let mut tray = empty(byte);
-    let mut i: usize = 0;
-    while steps.len() - i >= STEP {
-        take_step(
-            out,
-            &mut tray,
-            lines,
-            steps[i],
-            steps[i + 1],
-            steps[i + 2],
-            steps[i + 3],
-        )?;
-        i += STEP;
+    for step in steps.chunks_exact(STEP) {
+        take_step(out, &mut tray, lines, [step[0], step[1], step[2], step[3]])?;
     }
     Ok(())
-}
-
-// The same where the lines and the steps stand one after the other, the lines of a length, or of all there is.
-pub fn open_tray(out: &mut impl Write, both: &[u8], length: usize, byte: u8) -> io::Result<()> {
-    if length <= both.len() {
-        take_steps(out, byte, &both[..length], &both[length..])
-    } else {
-        take_steps(out, byte, both, &both[..0])
-    }
 }

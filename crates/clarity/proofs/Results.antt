@@ -4,18 +4,18 @@ use mathlib.Core.List.{List, [], ◌∷◌}
 use Prim.Native.Nat.{ℕ}
 use native.Mathlib.Omega.{arith}
 use lib.ListN.{get_or}
+use Rattle.std.specs.Prelude.{Result, Ok, Err}
+use Rattle.clarity.specs.declared.Clarity.{Clarity}
+use Rattle.clarity.specs.declared.Clarity.TheVariants.{Ratio, NoSpread}
 use Rattle.refusal.specs.declared.Refusal.{Refusal}
 use Rattle.refusal.specs.Number.{number_of}
 use Rattle.refusal.proofs.Laws.{refusal_positive, one_refusal}
 use Rattle.refusal.proofs.Theorems.{one_result, one_reply}
 use Rattle.clarity.specs.declared.Means.{Means}
 use Rattle.clarity.specs.declared.Scan.{Scan}
-use Rattle.clarity.specs.declared.Clarity.{Clarity}
-use Rattle.clarity.specs.declared.Clarity.TheVariants as C
-use Rattle.clarity.specs.declared.Clarities.{Clarities}
-use Rattle.clarity.specs.declared.Clarities.TheVariants as S
+use Rattle.clarity.specs.declared.Counts.{Counts}
 use Rattle.clarity.specs.Scan.{answer_of}
-use Rattle.clarity.specs.Promises.{clarity_numbers, ratio_of, Given, given_of, count_numbers, nothing, scan_tests, ClearAs, Clarifies, spool_tests, CountedAs, CountsSpool}
+use Rattle.clarity.specs.Promises.{kind_of, clarity_numbers, ratio_of, Given, given_of, count_numbers, nothing, scan_tests, ClearAs, Clarifies, spool_tests, CountedAs, CountsSpool}
 use Rattle.clarity.proofs.Ways.{answered}
 
 rest : List ℕ → List ℕ
@@ -40,36 +40,41 @@ second m n i j f g e = ap (λ (l : List ℕ). get_or l 1 0) e
 pub no_refusal : (r : Refusal) (f g : List ℕ) → 0 ∷ f ≡ number_of r ∷ g → ⊥
 no_refusal r f g e = refusal_positive r (sym (ap (λ (l : List ℕ). get_or l 0 0) e))
 
--- number, kind and ratio fix an answer
-one_answer : (a b : Clarity) → clarity_numbers a ≡ clarity_numbers b → ratio_of a ≡ ratio_of b → a ≡ b
-one_answer (C.Ratio x) (C.Ratio y) e r = ap C.Ratio r
-one_answer (C.Ratio x) C.NoSpread e r = absurd (let k = second 0 0 0 1 [] [] e in omega arith)
-one_answer (C.Ratio x) (C.Refused s) e r = absurd (no_refusal s (0 ∷ []) (0 ∷ []) e)
-one_answer C.NoSpread (C.Ratio y) e r = absurd (let k = second 0 0 1 0 [] [] e in omega arith)
-one_answer C.NoSpread C.NoSpread e r = refl
-one_answer C.NoSpread (C.Refused s) e r = absurd (no_refusal s (1 ∷ []) (0 ∷ []) e)
-one_answer (C.Refused s) (C.Ratio y) e r = absurd (no_refusal s (0 ∷ []) (0 ∷ []) (sym e))
-one_answer (C.Refused s) C.NoSpread e r = absurd (no_refusal s (1 ∷ []) (0 ∷ []) (sym e))
-one_answer (C.Refused s) (C.Refused u) e r = ap C.Refused (one_refusal s u (ap (λ (l : List ℕ). get_or l 0 0) e))
+-- kind and ratio fix what a scan comes to
+one_ratio : (a b : Clarity) → kind_of a ≡ kind_of b → ratio_of a ≡ ratio_of b → a ≡ b
+one_ratio (Ratio x) (Ratio y) k r = ap Ratio r
+one_ratio (Ratio x) NoSpread k r = absurd (omega arith)
+one_ratio NoSpread (Ratio y) k r = absurd (omega arith)
+one_ratio NoSpread NoSpread k r = refl
 
-pub one_clarity : (cells : List ℕ) (t : ℕ) (r s : Scan) → Clarifies cells t (clarity_numbers r.answer) (given_of r.means r.answer)
-    → Clarifies cells t (clarity_numbers s.answer) (given_of s.means s.answer) → r ≡ s
+-- numbers and doubles fix an answer
+one_answer : (a b : Result Scan Refusal) → clarity_numbers a ≡ clarity_numbers b → given_of a ≡ given_of b → a ≡ b
+one_answer (Ok s) (Ok u) e g =
+    ap Ok
+    (ap₂ (λ (m : Means) (r : Clarity). record { means = m; clarity = r })
+    (ap (λ (x : Given). x.means) g)
+    (one_ratio s.clarity u.clarity (second 0 0 (kind_of s.clarity) (kind_of u.clarity) [] [] e) (ap (λ (x : Given). x.ratio) g)))
+one_answer (Ok s) (Err r) e g = absurd (no_refusal r (kind_of s.clarity ∷ []) (0 ∷ []) e)
+one_answer (Err r) (Ok s) e g = absurd (no_refusal r (kind_of s.clarity ∷ []) (0 ∷ []) (sym e))
+one_answer (Err r) (Err u) e g = ap Err (one_refusal r u (ap (λ (l : List ℕ). get_or l 0 0) e))
+
+pub one_clarity : (cells : List ℕ) (t : ℕ) (r s : Result Scan Refusal) → Clarifies cells t (clarity_numbers r) (given_of r)
+    → Clarifies cells t (clarity_numbers s) (given_of s) → r ≡ s
 one_clarity cells t r s p q =
-    let e = one_scan cells t (clarity_numbers r.answer) (clarity_numbers s.answer) (given_of r.means r.answer) (given_of s.means s.answer) p q in
-    ap₂ (λ (m : Means) (a : Clarity). record { means = m; answer = a })
-    (ap (λ (g : Given). g.means) e.1) (one_answer r.answer s.answer e.0 (ap (λ (g : Given). g.ratio) e.1))
+    let e = one_scan cells t (clarity_numbers r) (clarity_numbers s) (given_of r) (given_of s) p q in
+    one_answer r s e.0 e.1
 
 -- the numbers fix the answer of a spool
-one_counted : (a b : Clarities) → count_numbers a ≡ count_numbers b → a ≡ b
-one_counted (S.Counted r f e) (S.Counted r' f' e') q = rw (at 1, at 2, at 3) refl
+one_counted : (a b : Result Counts Refusal) → count_numbers a ≡ count_numbers b → a ≡ b
+one_counted (Ok c) (Ok d) q = ap Ok (rw (at 1, at 2, at 3) refl)
   where
-    at : (i : ℕ) → get_or (0 ∷ r ∷ f ∷ e ∷ []) i 0 ≡ get_or (0 ∷ r' ∷ f' ∷ e' ∷ []) i 0
+    at : (i : ℕ) → get_or (count_numbers (Ok c)) i 0 ≡ get_or (count_numbers (Ok d)) i 0
     at i = ap (λ (l : List ℕ). get_or l i 0) q
-one_counted (S.Counted r f e) (S.Refused s) q = absurd (no_refusal s (r ∷ f ∷ e ∷ []) (0 ∷ 0 ∷ 0 ∷ []) q)
-one_counted (S.Refused s) (S.Counted r f e) q = absurd (no_refusal s (r ∷ f ∷ e ∷ []) (0 ∷ 0 ∷ 0 ∷ []) (sym q))
-one_counted (S.Refused s) (S.Refused u) q = ap S.Refused (one_refusal s u (ap (λ (l : List ℕ). get_or l 0 0) q))
+one_counted (Ok c) (Err s) q = absurd (no_refusal s (c.ratios ∷ c.unspread ∷ c.refusals ∷ []) (0 ∷ 0 ∷ 0 ∷ []) q)
+one_counted (Err s) (Ok c) q = absurd (no_refusal s (c.ratios ∷ c.unspread ∷ c.refusals ∷ []) (0 ∷ 0 ∷ 0 ∷ []) (sym q))
+one_counted (Err s) (Err u) q = ap Err (one_refusal s u (ap (λ (l : List ℕ). get_or l 0 0) q))
 
-pub one_counting : (cells : List ℕ) (t : ℕ) (a b : Clarities) → CountsSpool cells t (count_numbers a) → CountsSpool cells t (count_numbers b) → a ≡ b
+pub one_counting : (cells : List ℕ) (t : ℕ) (a b : Result Counts Refusal) → CountsSpool cells t (count_numbers a) → CountsSpool cells t (count_numbers b) → a ≡ b
 one_counting cells t a b p q = one_counted a b (one_spool cells t (count_numbers a) (count_numbers b) p q)
 
 -- ---- the numbers of a scan's result are those of its answer

@@ -16,37 +16,37 @@ use Rattle.clarity.proofs.Spread.{spread}
 
 -- ---- one cell
 
-pub dark_adds : (t c q : ℕ) → c < t → c ≤ 255 → (q ≡ c * c) × (q ≤ 65025) → Adds t c 1 c q c q
+pub dark_adds : (t c v q : ℕ) → c < t → c ≤ 255 → v ≡ c → (q ≡ c * c) × (q ≤ 65025) → Adds t c 1 v q v q
 unfolding on_side
-dark_adds t c q d l h =
+dark_adds t c v q d l i h =
     let e : on_side dark_side t c ≡ 1 = simp (lt-ltb c t d) in
     record {
       count_is = sym e;
-      sum_is = rw (e, one-mul c) refl;
+      sum_is = rw (e, one-mul c) i;
       squares_is = rw (e, one-mul (c * c)) h.0;
-      value_is = refl;
+      value_is = i;
       square_is = h.0;
       one = omega arith;
       below = omega arith;
       under = omega arith;
-      byte = l;
+      byte = omega arith;
       small = h.1;
     }
 
-pub bright_adds : (t c q : ℕ) → t ≤ c → c ≤ 255 → (q ≡ c * c) × (q ≤ 65025) → Adds t c 0 0 0 c q
+pub bright_adds : (t c v q : ℕ) → t ≤ c → c ≤ 255 → v ≡ c → (q ≡ c * c) × (q ≤ 65025) → Adds t c 0 0 0 v q
 unfolding on_side
-bright_adds t c q d l h =
+bright_adds t c v q d l i h =
     let e : on_side dark_side t c ≡ 0 = simp (le-ltb c t d) in
     record {
       count_is = sym e;
       sum_is = rw (e, zero-mul c) refl;
       squares_is = rw (e, zero-mul (c * c)) refl;
-      value_is = refl;
+      value_is = i;
       square_is = h.0;
       one = omega arith;
       below = omega arith;
       under = omega arith;
-      byte = l;
+      byte = omega arith;
       small = h.1;
     }
 

@@ -17,9 +17,11 @@ use borrow.Author.Tests.{eq-eqb, ne_eqb}
 use Rattle.numbers.specs.Below.{AllBelow}
 use Rattle.numbers.specs.Parts.{part}
 use Rattle.numbers.proofs.Cases.{pos_of_not_zero}
+use Rattle.std.specs.Prelude.{Result}
+use Rattle.clarity.specs.declared.Clarity.TheVariants.{Ratio, NoSpread}
+use Rattle.refusal.specs.declared.Refusal.{Refusal}
 use Rattle.refusal.proofs.Ladder.{denied, ◌then◌}
-use Rattle.clarity.specs.declared.Clarity.{Clarity}
-use Rattle.clarity.specs.declared.Clarity.TheVariants as C
+use Rattle.clarity.specs.declared.Scan.{Scan}
 use Rattle.clarity.specs.Scan.{cell_count, dark_side, bright_side, on_side, sum_to, count, sum, squares, numerator, denominator, quotient, clarity_of, clarity_in, means_in, answer_of}
 use Rattle.clarity.specs.Promises.{clarity_numbers, none, ratio_of, Given, nothing, BothSides, Clarifies, is_ratio, is_no_spread, is_refused, many, Whole, scan_count, CountsSpool}
 use Rattle.clarity.specs.Inside.{Tallied}
@@ -100,11 +102,11 @@ module _ (t : ℕ) (cells : List ℕ) where
   )
 
   -- no spread exactly where the denominator is 0
-  pub no_spread : denominator n1 s1 q1 n2 s2 q2 ≡ 0 → clarity_in t cells ≡ C.NoSpread
+  pub no_spread : denominator n1 s1 q1 n2 s2 q2 ≡ 0 → clarity_in t cells ≡ NoSpread
   unfolding clarity_in clarity_of
   no_spread z = simp (eq-eqb (denominator n1 s1 q1 n2 s2 q2) 0 z)
 
-  pub a_ratio : (denominator n1 s1 q1 n2 s2 q2 ≡ 0 → ⊥) → clarity_in t cells ≡ C.Ratio (quotient (numerator n1 s1 n2 s2) (denominator n1 s1 q1 n2 s2 q2))
+  pub a_ratio : (denominator n1 s1 q1 n2 s2 q2 ≡ 0 → ⊥) → clarity_in t cells ≡ Ratio (quotient (numerator n1 s1 n2 s2) (denominator n1 s1 q1 n2 s2 q2))
   unfolding clarity_in clarity_of
   a_ratio some = simp (ne_eqb (denominator n1 s1 q1 n2 s2 q2) 0 some)
 
@@ -146,10 +148,10 @@ module _ (t : ℕ) (cells : List ℕ) where
 
       module _ (some : denominator n1 s1 q1 n2 s2 q2 ≡ 0 → ⊥) where
         -- the ratio is the quotient of numerator and denominator, rounded once
-        pub ratio_rounded : clarity_in t cells ≡ C.Ratio (round binary64 false (numerator n1 s1 n2 s2) (denominator n1 s1 q1 n2 s2 q2))
+        pub ratio_rounded : clarity_in t cells ≡ Ratio (round binary64 false (numerator n1 s1 n2 s2) (denominator n1 s1 q1 n2 s2 q2))
         ratio_rounded =
             a_ratio some
-            ∙ ap C.Ratio
+            ∙ ap Ratio
             (once (numerator n1 s1 n2 s2) (denominator n1 s1 q1 n2 s2 q2) (omega (arith, numerator_exact)) (pos_of_not_zero _ some) (omega (arith, denominator_exact)))
 
         -- and a finite double above 0.0
@@ -201,7 +203,7 @@ module _ (cells : List ℕ) (t : ℕ) where
       omega arith
 
   -- they count what the scans answer, one by one, whatever results their promise allows
-  pub one_by_one : (answers : ℕ → Clarity) (given : ℕ → Given)
+  pub one_by_one : (answers : ℕ → Result Scan Refusal) (given : ℕ → Given)
       → ((i : ℕ) → i < scan_count cells → Clarifies (part cell_count i cells) t (clarity_numbers (answers i)) (given i))
       → (r f e : ℕ) → CountsSpool cells t (0 ∷ r ∷ f ∷ e ∷ [])
       → (r ≡ sum_to (scan_count cells) (λ i. is_ratio (answers i)))

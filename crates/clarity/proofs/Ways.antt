@@ -1,81 +1,47 @@
 -- The ways out of a scan and of a spool of scans, and that each scan answers as it is said to.
 use mathlib.Core.Path.{◌≡◌, refl, sym, ◌∙◌, subst}
-use mathlib.Core.Bool.{Bool, true, false, cond}
-use mathlib.Core.Logic.{⊎_elim}
+use mathlib.Core.Logic.{◌⊎◌, inl, inr, ⊎_elim}
 use mathlib.Core.List.{List, [], ◌∷◌}
 use Prim.Native.Nat.{ℕ, ◌/◌, ◌%◌, ◌<◌, ◌≤◌}
 use native.Mathlib.Omega.{arith}
-use lib.Dec.{eqb}
 use lib.ListN.{length}
 use lib.Ieee.{Float}
 use borrow.Author.Tests.{eq-eqb, ne_eqb}
 use Rattle.numbers.proofs.Cases.{same_or_not, pos_of_not_zero}
+use Rattle.std.specs.Prelude.{Result, Ok, Err}
+use Rattle.clarity.specs.declared.Clarity.{Clarity}
 use Rattle.refusal.specs.declared.Refusal.{Refusal}
 use Rattle.refusal.specs.declared.Refusal.TheVariants.{InputLength, OneSided}
-use Rattle.refusal.specs.Number.{number_of}
 use Rattle.refusal.proofs.Ladder.{Met, FailsAt, answer_at, refuses, succeeds, declines, replies, denied, ◌then◌}
 use Rattle.clarity.specs.declared.Means.{Means}
 use Rattle.clarity.specs.declared.Scan.{Scan}
-use Rattle.clarity.specs.declared.Clarity.{Clarity}
-use Rattle.clarity.specs.declared.Clarity.TheVariants as C
-use Rattle.clarity.specs.Scan.{dark_side, bright_side, count, sum, squares, numerator, denominator, quotient, clarity_of, clarity_in, means_in, answer_of}
-use Rattle.clarity.specs.Promises.{clarity_numbers, Given, given_of, nothing, BothSides, scan_tests, ClearAs, Clarifies, Whole, scan_count, spool_tests, CountedAs, CountsSpool}
-use Rattle.clarity.specs.Inside.{refused_as, Tallied, CountedTo}
-
--- an answer that is no refusal has the number 0, and its kind
-numbers_of : (b : Bool) (r : Float) → clarity_numbers (cond b C.NoSpread (C.Ratio r)) ≡ 0 ∷ cond b 1 0 ∷ []
-numbers_of true r = refl
-numbers_of false r = refl
+use Rattle.clarity.specs.Scan.{dark_side, bright_side, count, quotient, clarity_of, clarity_in, means_in, scan_in, answer_of}
+use Rattle.clarity.specs.Promises.{kind_of, clarity_numbers, ratio_of, Given, given_of, nothing, BothSides, scan_tests, ClearAs, Clarifies, Whole, scan_count, spool_tests, CountedAs, CountsSpool}
+use Rattle.clarity.specs.Inside.{Tallied, CountedTo}
 
 module _ (cells : List ℕ) (t : ℕ) where
   pub refused : (n : ℕ) → FailsAt n (scan_tests cells t) → Clarifies cells t (answer_at n (scan_tests cells t) ∷ 0 ∷ []) nothing
   unfolding Clarifies
   refused = refuses (ClearAs cells t) 1 nothing (scan_tests cells t)
 
-  kind : ℕ
-  kind =
-      cond (eqb (denominator (count dark_side t cells) (sum dark_side t cells) (squares dark_side t cells)
-      (count bright_side t cells) (sum bright_side t cells) (squares bright_side t cells)) 0) 1 0
-
-  numbers-are : clarity_numbers (clarity_in t cells) ≡ 0 ∷ kind ∷ []
-  unfolding clarity_in clarity_of kind
-  numbers-are =
-      numbers_of
-      (eqb (denominator (count dark_side t cells) (sum dark_side t cells) (squares dark_side t cells)
-      (count bright_side t cells) (sum bright_side t cells) (squares bright_side t cells)) 0)
-      (quotient (numerator (count dark_side t cells) (sum dark_side t cells) (count bright_side t cells) (sum bright_side t cells))
-      (denominator (count dark_side t cells) (sum dark_side t cells) (squares dark_side t cells)
-      (count bright_side t cells) (sum bright_side t cells) (squares bright_side t cells)))
-
-  pub clear : Met (scan_tests cells t) → Clarifies cells t (clarity_numbers (clarity_in t cells)) (given_of (means_in t cells) (clarity_in t cells))
+  pub clear : Met (scan_tests cells t) → Clarifies cells t (clarity_numbers (Ok (scan_in t cells))) (given_of (Ok (scan_in t cells)))
   unfolding Clarifies
   clear m =
-      subst (λ (l : List ℕ). Clarifies cells t l (given_of (means_in t cells) (clarity_in t cells))) (sym numbers-are)
-      (succeeds (ClearAs cells t) 1 nothing (scan_tests cells t) (kind ∷ []) (given_of (means_in t cells) (clarity_in t cells)) m (sym numbers-are, refl))
+      succeeds (ClearAs cells t) 1 nothing (scan_tests cells t) (kind_of (clarity_in t cells) ∷ []) (given_of (Ok (scan_in t cells))) m (refl, refl)
 
   -- ---- the returns of the code
 
-  module _ (s : Scan) where
-    as-given : (r : Refusal) → s ≡ refused_as r → Clarifies cells t (number_of r ∷ 0 ∷ []) nothing
-        → Clarifies cells t (clarity_numbers s.answer) (given_of s.means s.answer)
-    as-given r e p = subst (λ (k : Scan). Clarifies cells t (clarity_numbers k.answer) (given_of k.means k.answer)) (sym e) p
+  pub no_scan : (length cells ≡ 378 → ⊥) → Clarifies cells t (1 ∷ 0 ∷ []) nothing
+  no_scan d = refused 0 (denied d)
 
-    pub no_scan : (length cells ≡ 378 → ⊥) → s ≡ refused_as InputLength → Clarifies cells t (clarity_numbers s.answer) (given_of s.means s.answer)
-    no_scan d e = as-given InputLength e (refused 0 (denied d))
-
-    pub none_dark : length cells ≡ 378 → (n1 s1 q1 : ℕ) → Tallied dark_side t cells n1 s1 q1 → n1 ≡ 0 → s ≡ refused_as OneSided
-        → Clarifies cells t (clarity_numbers s.answer) (given_of s.means s.answer)
-    none_dark long n1 s1 q1 d z e =
-        as-given OneSided e (refused 1 (long then denied (λ b. let h = b.some_dark in let k = d.count_is in omega arith)))
-
-    pub none_bright : length cells ≡ 378 → (n2 s2 q2 : ℕ) → Tallied bright_side t cells n2 s2 q2 → n2 ≡ 0 → s ≡ refused_as OneSided
-        → Clarifies cells t (clarity_numbers s.answer) (given_of s.means s.answer)
-    none_bright long n2 s2 q2 d z e =
-        as-given OneSided e (refused 1 (long then denied (λ b. let h = b.some_bright in let k = d.count_is in omega arith)))
+  pub one_sided : length cells ≡ 378 → (n1 s1 q1 n2 s2 q2 : ℕ) → Tallied dark_side t cells n1 s1 q1 → Tallied bright_side t cells n2 s2 q2
+      → (n1 ≡ 0) ⊎ ((n1 ≡ 0 → ⊥) × (n2 ≡ 0)) → Clarifies cells t (20 ∷ 0 ∷ []) nothing
+  one_sided long n1 s1 q1 n2 s2 q2 d b (inl z) = refused 1 (long then denied (λ k. let h = k.some_dark in let i = d.count_is in omega arith))
+  one_sided long n1 s1 q1 n2 s2 q2 d b (inr z) = refused 1 (long then denied (λ k. let h = k.some_bright in let i = b.count_is in let e = z.1 in omega arith))
 
   pub found : length cells ≡ 378 → (n1 s1 q1 n2 s2 q2 : ℕ) → Tallied dark_side t cells n1 s1 q1 → Tallied bright_side t cells n2 s2 q2
       → (n1 ≡ 0 → ⊥) → (n2 ≡ 0 → ⊥) → (x y : Float) → x ≡ quotient s1 n1 → y ≡ quotient s2 n2 → (a : Clarity) → a ≡ clarity_of n1 s1 q1 n2 s2 q2
-      → Clarifies cells t (clarity_numbers a) (given_of (record { dark = x; bright = y }) a)
+      → Clarifies cells t (0 ∷ kind_of a ∷ []) (record { ratio = ratio_of a; means = record { dark = x; bright = y } })
   unfolding clarity_in means_in
   found long n1 s1 q1 n2 s2 q2 d b some_dark some_bright x y e f a g = rw (is, means-are) (clear (long then sides then tt))
     where
@@ -94,20 +60,20 @@ module _ (cells : List ℕ) (t : ℕ) where
 
   -- ---- what a scan answers
 
-  no_length : (length cells ≡ 378 → ⊥) → answer_of t cells ≡ C.Refused InputLength
+  no_length : (length cells ≡ 378 → ⊥) → answer_of t cells ≡ Err InputLength
   unfolding answer_of
   no_length d = simp (ne_eqb (length cells) 378 d)
 
-  no-dark : length cells ≡ 378 → count dark_side t cells ≡ 0 → answer_of t cells ≡ C.Refused OneSided
+  no-dark : length cells ≡ 378 → count dark_side t cells ≡ 0 → answer_of t cells ≡ Err OneSided
   unfolding answer_of
   no-dark long z = simp (eq-eqb (length cells) 378 long, eq-eqb (count dark_side t cells) 0 z)
 
-  no-bright : length cells ≡ 378 → (count dark_side t cells ≡ 0 → ⊥) → count bright_side t cells ≡ 0 → answer_of t cells ≡ C.Refused OneSided
+  no-bright : length cells ≡ 378 → (count dark_side t cells ≡ 0 → ⊥) → count bright_side t cells ≡ 0 → answer_of t cells ≡ Err OneSided
   unfolding answer_of
   no-bright long d z =
       simp (eq-eqb (length cells) 378 long, ne_eqb (count dark_side t cells) 0 d, eq-eqb (count bright_side t cells) 0 z)
 
-  both-sides : length cells ≡ 378 → (count dark_side t cells ≡ 0 → ⊥) → (count bright_side t cells ≡ 0 → ⊥) → answer_of t cells ≡ clarity_in t cells
+  both-sides : length cells ≡ 378 → (count dark_side t cells ≡ 0 → ⊥) → (count bright_side t cells ≡ 0 → ⊥) → answer_of t cells ≡ Ok (scan_in t cells)
   unfolding answer_of
   both-sides long d b =
       simp (eq-eqb (length cells) 378 long, ne_eqb (count dark_side t cells) 0 d, ne_eqb (count bright_side t cells) 0 b)
@@ -117,8 +83,8 @@ module _ (cells : List ℕ) (t : ℕ) where
     pub given : Given
     pub is : Clarifies cells t (clarity_numbers (answer_of t cells)) given
 
-  by : (a : Clarity) (g : Given) → answer_of t cells ≡ a → Clarifies cells t (clarity_numbers a) g → Answered
-  by a g e p = record { given = g; is = subst (λ (c : Clarity). Clarifies cells t (clarity_numbers c) g) (sym e) p }
+  by : (a : Result Scan Refusal) (g : Given) → answer_of t cells ≡ a → Clarifies cells t (clarity_numbers a) g → Answered
+  by a g e p = record { given = g; is = subst (λ (c : Result Scan Refusal). Clarifies cells t (clarity_numbers c) g) (sym e) p }
 
   pub answered : Answered
   answered =
@@ -126,17 +92,17 @@ module _ (cells : List ℕ) (t : ℕ) where
       (λ (long : length cells ≡ 378).
       ⊎_elim
       (λ (z : count dark_side t cells ≡ 0).
-      by (C.Refused OneSided) nothing (no-dark long z) (refused 1 (long then denied (λ b. let h = b.some_dark in omega arith))))
+      by (Err OneSided) nothing (no-dark long z) (refused 1 (long then denied (λ b. let h = b.some_dark in omega arith))))
       (λ (d : count dark_side t cells ≡ 0 → ⊥).
       ⊎_elim
       (λ (z : count bright_side t cells ≡ 0).
-      by (C.Refused OneSided) nothing (no-bright long d z) (refused 1 (long then denied (λ b. let h = b.some_bright in omega arith))))
+      by (Err OneSided) nothing (no-bright long d z) (refused 1 (long then denied (λ b. let h = b.some_bright in omega arith))))
       (λ (b : count bright_side t cells ≡ 0 → ⊥).
-      by (clarity_in t cells) (given_of (means_in t cells) (clarity_in t cells)) (both-sides long d b)
+      by (Ok (scan_in t cells)) (given_of (Ok (scan_in t cells))) (both-sides long d b)
       (clear (long then record { some_dark = pos_of_not_zero _ d; some_bright = pos_of_not_zero _ b } then tt)))
       (same_or_not (count bright_side t cells) 0))
       (same_or_not (count dark_side t cells) 0))
-      (λ (d : length cells ≡ 378 → ⊥). by (C.Refused InputLength) nothing (no_length d) (refused 0 (denied d)))
+      (λ (d : length cells ≡ 378 → ⊥). by (Err InputLength) nothing (no_length d) (refused 0 (denied d)))
       (same_or_not (length cells) 378)
 
   -- ---- a spool
@@ -145,11 +111,9 @@ module _ (cells : List ℕ) (t : ℕ) where
   unfolding CountsSpool
   declined = declines (CountedAs cells t) 3 (spool_tests cells)
 
-  pub no_whole : (length cells % 378 ≡ 0 → ⊥) → CountsSpool cells t (1 ∷ 0 ∷ 0 ∷ 0 ∷ [])
-  no_whole d = declined 0 (denied (λ w. d w.scans))
-
-  pub too_many : 96390 < length cells → CountsSpool cells t (1 ∷ 0 ∷ 0 ∷ 0 ∷ [])
-  too_many d = declined 0 (denied (λ w. let f = w.few in omega arith))
+  pub no_spool : (length cells % 378 ≡ 0 → ⊥) ⊎ ((length cells % 378 ≡ 0) × (96390 < length cells)) → CountsSpool cells t (1 ∷ 0 ∷ 0 ∷ 0 ∷ [])
+  no_spool (inl d) = declined 0 (denied (λ w. d w.scans))
+  no_spool (inr d) = declined 0 (denied (λ w. let f = w.few in let e = d.1 in omega arith))
 
   pub counts : Whole (length cells) → (r f e : ℕ) → CountedTo cells t (scan_count cells) r f e → CountsSpool cells t (0 ∷ r ∷ f ∷ e ∷ [])
   unfolding CountsSpool

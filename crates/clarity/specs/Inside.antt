@@ -1,15 +1,9 @@
 -- What the inner functions are told and tell: a side's numbers, how large they are, and that what is subtracted is never the greater.
-use Rattle.std.specs.Prelude.{◌≡◌, Bool, List, ℕ, ◌+◌, ◌*◌, ◌≤◌}
+use Rattle.std.specs.Prelude.{◌≡◌, Bool, List, ℕ, ◌+◌, ◌*◌, ◌≤◌, Result}
 use Rattle.refusal.specs.declared.Refusal.{Refusal}
 use Rattle.clarity.specs.declared.Scan.{Scan}
-use Rattle.clarity.specs.declared.Clarity.{Clarity}
-use Rattle.clarity.specs.declared.Clarity.TheVariants.{Refused}
 use Rattle.clarity.specs.Scan.{dark_side, on_side, count, sum, squares}
-use Rattle.clarity.specs.Promises.{no_means, is_ratio, is_no_spread, is_refused, many}
-
--- what a scan that is refused comes to
-abbrev pub refused_as : Refusal → Scan
-refused_as r = record { means = no_means; answer = Refused r }
+use Rattle.clarity.specs.Promises.{is_ratio, is_no_spread, is_refused, many}
 
 -- what one cell adds: to the dark side n, s and q, and to all its value and its square
 pub record Adds (t c n s q value square : ℕ) : Type 0 where
@@ -56,7 +50,7 @@ pub record CountedTo (cells : List ℕ) (t i ratios noSpreads refusals : ℕ) : 
   pub add_up : ratios + noSpreads + refusals ≡ i
 
 -- and what one answer more makes of them
-pub record OneMore (answer : Clarity) (ratios noSpreads refusals ratios' noSpreads' refusals' : ℕ) : Type 0 where
+pub record OneMore (answer : Result Scan Refusal) (ratios noSpreads refusals ratios' noSpreads' refusals' : ℕ) : Type 0 where
   pub ratios_are : ratios' ≡ ratios + is_ratio answer
   pub no_spreads_are : noSpreads' ≡ noSpreads + is_no_spread answer
   pub refusals_are : refusals' ≡ refusals + is_refused answer

@@ -1,12 +1,14 @@
 -- How clear a scan is, in 02's words and order: the cells on either side of a threshold with their counts n, sums s and sums of squares q (1 dark, 2 bright);
 -- the ratio, both means, and the answer.
-use Rattle.std.specs.Prelude.{Bool, true, false, cond, List, ℕ, zero, suc, ◌+◌, ◌-◌, ◌*◌, length, get_or, ltb, eqb, pos, Float}
+use Rattle.std.specs.Prelude.{Bool, true, false, cond, List, ℕ, zero, suc, ◌+◌, ◌-◌, ◌*◌, length, get_or, ltb, eqb, pos, Float, Result, Ok, Err}
+use Rattle.clarity.specs.declared.Clarity.{Clarity}
+use Rattle.clarity.specs.declared.Clarity.TheVariants.{Ratio, NoSpread}
 use Rattle.std.specs.Float.{binary64}
 use Rattle.std.specs.Float.Ieee.{div, of_int}
+use Rattle.refusal.specs.declared.Refusal.{Refusal}
 use Rattle.refusal.specs.declared.Refusal.TheVariants.{InputLength, OneSided}
 use Rattle.clarity.specs.declared.Means.{Means}
-use Rattle.clarity.specs.declared.Clarity.{Clarity}
-use Rattle.clarity.specs.declared.Clarity.TheVariants.{Ratio, NoSpread, Refused}
+use Rattle.clarity.specs.declared.Scan.{Scan}
 
 -- the cells of a line: six for each of 63 characters
 abbrev pub cell_count : ℕ
@@ -55,7 +57,7 @@ denominator n1 s1 q1 n2 s2 q2 = n2 * n2 * (n1 * q1 - s1 * s1) + n1 * n1 * (n2 * 
 abbrev pub quotient : ℕ → ℕ → Float
 quotient n d = div binary64 (of_int binary64 (pos n)) (of_int binary64 (pos d))
 
--- the ratio, or no spread where the denominator is 0
+-- the ratio, or none, for no spread, where the denominator is 0
 unfoldable pub clarity_of : ℕ → ℕ → ℕ → ℕ → ℕ → ℕ → Clarity
 clarity_of n1 s1 q1 n2 s2 q2 =
     cond (eqb (denominator n1 s1 q1 n2 s2 q2) 0) NoSpread (Ratio (quotient (numerator n1 s1 n2 s2) (denominator n1 s1 q1 n2 s2 q2)))
@@ -75,10 +77,14 @@ means_in t cells =
       bright = quotient (sum bright_side t cells) (count bright_side t cells);
     }
 
--- the answer: 1 for another length, 20 where no cell is dark or none is bright, and else the ratio or no spread
-unfoldable pub answer_of : ℕ → List ℕ → Clarity
+-- both together
+abbrev pub scan_in : ℕ → List ℕ → Scan
+scan_in t cells = record { means = means_in t cells; clarity = clarity_in t cells }
+
+-- the answer: 1 for another length, 20 where no cell is dark or none is bright, and else the means with the ratio or no spread
+unfoldable pub answer_of : ℕ → List ℕ → Result Scan Refusal
 answer_of t cells =
     cond (eqb (length cells) cell_count)
-    (cond (eqb (count dark_side t cells) 0) (Refused OneSided)
-    (cond (eqb (count bright_side t cells) 0) (Refused OneSided) (clarity_in t cells)))
-    (Refused InputLength)
+    (cond (eqb (count dark_side t cells) 0) (Err OneSided)
+    (cond (eqb (count bright_side t cells) 0) (Err OneSided) (Ok (scan_in t cells))))
+    (Err InputLength)

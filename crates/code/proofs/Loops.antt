@@ -1,16 +1,21 @@
 -- What the code of words does, a turn and a way out of a loop at a time, over plain variables.
 use mathlib.Core.Path.{◌≡◌, refl, sym, ap, ◌∙◌}
 use mathlib.Core.Bool.{Bool, true, false}
-use mathlib.Core.List.{List}
+use mathlib.Core.List.{List, [], ◌∷◌}
 use Prim.Native.Nat.{ℕ, suc, ◌+◌, ◌%◌, ◌<◌, ◌≤◌}
 use native.Mathlib.Omega.{arith}
 use lib.ListN.{length, get_or}
 use borrow.Author.Count.{below_none, below_more}
+use Rattle.std.specs.List.{list_all, fold}
+use Rattle.std.proofs.lemmas.Bool.{leb-true, le-leb, false≢true}
+use Rattle.std.proofs.lemmas.List.{get_or_default}
+use Rattle.std.proofs.lemmas.List.Sums.{AllPass-from_list_all, list_all-from_AllPass}
+use lib.Dec.{leb}
 use Rattle.refusal.specs.Promise.{Tells}
 use Rattle.refusal.proofs.Laws.{tells_yes, tells_no}
 use Rattle.field.specs.Field.{sum, times_x, shifted, product, α, power}
+use Rattle.field.proofs.Laws
 use Rattle.polynomial.specs.Polynomial.{value_at}
-use Rattle.polynomial.proofs.Horner.{horner, horner_value}
 use Rattle.code.specs.Word.{Characters, marks, Line}
 use Rattle.code.specs.Inside.{PowerSums}
 use Rattle.code.proofs.Words.{characters_below}
@@ -19,46 +24,37 @@ use Rattle.code.proofs.Lines.{line_long, line_characters, line_sums, sums_line}
 
 -- ---- whether each character is at most 63
 
-pub record LowTo (w : List ℕ) (a : ℕ) : Type 0 where
-  pub most : a ≤ length w
-  pub passed : (b : ℕ) → b < a → get_or w b 0 < 64
+low_list : (w : List ℕ) → list_all (λ x. leb x 63) w ≡ true → Characters w
+low_list w e = characters_below w (length w) (omega arith) (λ a h. below (get_or w a 0) (AllPass-from_list_all (λ x. leb x 63) w e a 0 h))
+  where
+    below : (x : ℕ) → leb x 63 ≡ true → x < 64
+    below x t = let l = leb-true x 63 t in omega arith
 
-pub low_none : (w : List ℕ) → LowTo w 0
-low_none w = record { most = omega arith; passed = below_none (λ b. get_or w b 0 < 64) }
+list_low : (w : List ℕ) → Characters w → list_all (λ x. leb x 63) w ≡ true
+list_low w c = list_all-from_AllPass (λ x. leb x 63) w (λ a d h. at a d h)
+  where
+    at : (a d : ℕ) → a < length w → leb (get_or w a d) 63 ≡ true
+    at a d h = le-leb (get_or w a d) 63 (let l = c a in let e = get_or_default w a d 0 h in omega arith)
 
-pub low_again : (w : List ℕ) (a : ℕ) → LowTo w a → a < length w → get_or w a 0 ≤ 63 → LowTo w (a + 1)
-low_again w a l h c = record { most = omega arith; passed = below_more (λ b. get_or w b 0 < 64) a l.passed (omega arith) }
-
-pub low_all : (w : List ℕ) (a : ℕ) → LowTo w a → length w ≤ a → Tells (Characters w) true
-low_all w a l h = tells_yes (characters_below w a h l.passed)
-
-pub low_not : (w : List ℕ) (a : ℕ) → 63 < get_or w a 0 → Tells (Characters w) false
-low_not w a h = tells_no (λ c. let l = c a in omega arith)
+pub tells_low : (w : List ℕ) (b : Bool) → b ≡ list_all (λ x. leb x 63) w → Tells (Characters w) b
+tells_low w b e = record { holds = λ t. low_list w (sym e ∙ t); fails = λ f c. false≢true (sym f ∙ e ∙ list_low w c) }
 
 -- ---- the value at x
 
-pub record ValueTo (w : List ℕ) (x v a : ℕ) : Type 0 where
-  pub most : a ≤ length w
-  pub is : v ≡ horner x w a
+one_more : (a x c p v : ℕ) → sum (product (sum (product a x) (c % 64)) p) v ≡ sum (product a (product x p)) (sum (product c p) v)
+one_more a x c p v = ap (λ (n : ℕ). sum n v) (Laws.sum_product (product a x) (c % 64) p ∙ ap (sum (product (product a x) p)) (Laws.product_low c p)) ∙ simp Laws.ring
 
-pub value_none : (w : List ℕ) (x : ℕ) → ValueTo w x 0 0
-unfolding horner
-value_none w x = record { most = omega arith; is = refl }
+-- from a on, by Horner's rule
+value_from : (x a : ℕ) (w : List ℕ) → a < 64 → fold (λ v c. sum (product v x) (c % 64)) a w ≡ sum (product a (power x (length w))) (value_at x w)
+unfolding value_at power
+value_from x a [] h = sym (Laws.sum_zero (product a 1) ∙ Laws.product_one a h)
+value_from x a (c ∷ cs) h =
+    value_from x (sum (product a x) (c % 64)) cs (Laws.sum_lt (product a x) (c % 64) (Laws.product_lt a x) (omega arith))
+    ∙ one_more a x c (power x (length cs)) (value_at x cs)
 
-pub value_again : (w : List ℕ) (x v u r a : ℕ) → ValueTo w x v a → a < length w → u ≡ product v x → r ≡ sum u (get_or w a 0 % 64)
-    → ValueTo w x r (a + 1)
-unfolding horner
-value_again w x v u r a t h e f =
-    record {
-      most = omega arith;
-      is = f ∙ ap (λ (n : ℕ). sum n (get_or w a 0 % 64)) (e ∙ ap (λ (n : ℕ). product n x) t.is) ∙ ap (horner x w) (one a);
-    }
-  where
-    one : (a : ℕ) → suc a ≡ a + 1
-    one a = omega arith
-
-pub value_all : (w : List ℕ) (x v a : ℕ) → ValueTo w x v a → length w ≤ a → v ≡ value_at x w
-value_all w x v a t h = t.is ∙ ap (horner x w) (let m = t.most in omega arith) ∙ horner_value x w
+pub value_by_fold : (w : List ℕ) (x v : ℕ) → v ≡ fold (λ v c. sum (product v x) (c % 64)) 0 w → v ≡ value_at x w
+value_by_fold w x v e =
+    e ∙ value_from x 0 w (omega arith) ∙ ap (λ (n : ℕ). sum n (value_at x w)) (Laws.zero_product (power x (length w))) ∙ Laws.zero_sum (value_at x w)
 
 -- ---- whether they have these sums
 

@@ -3,14 +3,14 @@ use mathlib.Core.Path.{◌≡◌, sym, ap, ◌∙◌}
 use mathlib.Core.Bool.{Bool}
 use mathlib.Core.Logic.{⊎_elim}
 use mathlib.Core.List.{List}
-use Prim.Native.Nat.{ℕ, ◌+◌, ◌-◌, ◌%◌, ◌<◌, ◌≤◌}
+use Prim.Native.Nat.{ℕ, ◌+◌, ◌-◌, ◌<◌, ◌≤◌}
 use native.Mathlib.Omega.{arith}
 use lib.Bits.{bit_xor}
 use lib.ListN.{length, get_or, replicate, take}
 use lib.Seq.{ext_get_or}
 use Rattle.refusal.proofs.Theorems.{one_verdict}
 use Rattle.numbers.proofs.Cases.{le_or_lt}
-use Rattle.field.specs.Field.{sum, product, α, power, Log, Quotient}
+use Rattle.field.specs.Field.{sum, product, α, power}
 use Rattle.field.proofs.Laws
 use Rattle.polynomial.specs.Sums.{weight}
 use Rattle.code.specs.Word.{power_sum, Clean, added, marks, Line, text, number, distance, nowhere, first_changed, last_changed, turned, reversed}

@@ -30,14 +30,7 @@ pub fn is_line(word: &[u8]) -> bool
 fn in_range(word: &[u8]) -> bool
     ensures { Tells (Characters word.now) result }
 {
-    let mut a: usize = 0;
-    while a < word.len() {
-        if word[a] > 63 {
-            return false;
-        }
-        a += 1;
-    }
-    true
+    word.iter().all(|c| *c <= 63)
 }
 
 // Whether 63 characters have these power sums, S_-5 first.
@@ -46,13 +39,11 @@ fn has_sums(word: &[u8], sums: [u8; 11]) -> bool
     ensures { Tells (PowerSums word.now sums) result }
 {
     let mut x = FIRST_POINT;
-    let mut k: usize = 0;
-    while k < 11 {
-        if value_at(word, x) != sums[k] {
+    for sum in sums {
+        if value_at(word, x) != sum {
             return false;
         }
         x = field::times(ALPHA, x);
-        k += 1;
     }
     true
 }
@@ -61,13 +52,8 @@ fn has_sums(word: &[u8], sums: [u8; 11]) -> bool
 fn value_at(word: &[u8], x: u8) -> u8
     ensures { result ≡ value_at x word.now }
 {
-    let mut v: u8 = 0;
-    let mut a: usize = 0;
-    while a < word.len() {
-        v = field::plus(field::times(v, x), word[a] % 64);
-        a += 1;
-    }
-    v
+    word.iter()
+        .fold(0, |v, c| field::plus(field::times(v, x), *c % 64))
 }
 
 // The eleven power sums of the marks.

@@ -3,7 +3,7 @@
 
 ghost use Rattle.std.specs.Prelude.{◌≡◌, ◌++◌, ◌≤◌, length, take, drop};
 
-// Writes the bytes over the first ones of the output, and leaves the rest of it.
+// Writes the bytes over the first ones of the output, and leaves the rest of it. Kept as it is: docs/PROMISES.md names it.
 pub fn copy(bytes: &[u8], output: &mut [u8])
     requires { length bytes.now ≤ length output.old }
     ensures same_length { length output.new ≡ length output.old }

@@ -1,5 +1,5 @@
 -- What the code does, a turn and a way out at a time, over plain variables.
-use mathlib.Core.Path.{◌≡◌, refl, sym, ap, ap₂, ◌∙◌}
+use mathlib.Core.Path.{◌≡◌, refl, sym, ap, ap₂, ◌∙◌, subst}
 use mathlib.Core.Bool.{Bool}
 use mathlib.Core.List.{List, [], ◌∷◌}
 use Prim.Native.Nat.{ℕ, zero, suc, ◌+◌, ◌-◌, ◌*◌, ◌/◌, ◌^◌, ◌<◌, ◌≤◌}
@@ -78,8 +78,8 @@ low_start w met h s =
       kept = low-from w (length w - 8) met s;
     }
 
-pub low_again : (w : List ℕ) (i met n : ℕ) → LowTo w i met → i + 8 < length w → HoldsBytes (eight_from w i) n → LowTo w (i + 8) (bit_or met n)
-low_again w i met n t h s =
+low_more : (w : List ℕ) (i met n : ℕ) → LowTo w i met → i + 8 < length w → HoldsBytes (eight_from w i) n → LowTo w (i + 8) (bit_or met n)
+low_more w i met n t h s =
     record {
       most = omega arith;
       passed = λ f a l. by_cases f a l (dec_lt a i);
@@ -90,6 +90,14 @@ low_again w i met n t h s =
     by_cases : LowEight (bit_or met n) → (a : ℕ) → a < i + 8 → Dec (a < i) → get_or w a 0 < 64
     by_cases f a l (yes b) = t.passed (low_left met n f) a b
     by_cases f a l (no b) = from_low w i n s (low_right met n f) a (omega arith) l
+
+-- a turn passes eight bytes, and one is left
+eight_on : (k : ℕ) → 8 * k + 8 ≡ 8 * (k + 1)
+eight_on k = omega arith
+
+pub low_again : (w : List ℕ) (k met n : ℕ) → LowTo w (8 * k) met → k < (length w - 1) / 8 → HoldsBytes (eight_from w (8 * k)) n
+    → LowTo w (8 * (k + 1)) (bit_or met n)
+low_again w k met n t h s = subst (λ (i : ℕ). LowTo w i (bit_or met n)) (eight_on k) (low_more w (8 * k) met n t (omega arith) s)
 
 same_tells : {P Q : Type 0} {b : Bool} → (P → Q) → (Q → P) → Tells P b → Tells Q b
 same_tells to back t = record { holds = λ e. to (t.holds e); fails = λ e q. t.fails e (back q) }
@@ -129,8 +137,12 @@ eight_more w i z n e f =
     total_same 8 (byte (bit_xor z n)) (λ k. bit_xor (byte z k) (byte n k)) (λ k l. byte_xor z n k) ∙ total_xor 8 (byte z) (byte n)
     ∙ ap₂ bit_xor e (total_same 8 (byte n) (λ k. get_or w (i + k) 0) f) ∙ sym (total_append i 8 (λ a. get_or w a 0))
 
-pub xor_again : (w : List ℕ) (i z n : ℕ) → XorTo w i z → i + 8 < length w → HoldsBytes (eight_from w i) n → XorTo w (i + 8) (bit_xor z n)
-xor_again w i z n t h s = record { most = h; passed = eight_more w i z n t.passed (holds_at w i n s) }
+xor_more : (w : List ℕ) (i z n : ℕ) → XorTo w i z → i + 8 < length w → HoldsBytes (eight_from w i) n → XorTo w (i + 8) (bit_xor z n)
+xor_more w i z n t h s = record { most = h; passed = eight_more w i z n t.passed (holds_at w i n s) }
+
+pub xor_again : (w : List ℕ) (k z n : ℕ) → XorTo w (8 * k) z → k < (length w - 1) / 8 → HoldsBytes (eight_from w (8 * k)) n
+    → XorTo w (8 * (k + 1)) (bit_xor z n)
+xor_again w k z n t h s = subst (λ (i : ℕ). XorTo w i (bit_xor z n)) (eight_on k) (xor_more w (8 * k) z n t (omega arith) s)
 
 -- m bytes of eight shifted out, where the list ends with the eight
 holds_shifted : (w : List ℕ) (i n m : ℕ) → HoldsBytes (eight_from w i) n → length w ≡ i + 8 → (k : ℕ) → byte (n / 2 ^ (8 * m)) k ≡ get_or w (i + m + k) 0
@@ -140,15 +152,22 @@ holds_shifted w i n m s e k = byte_shift n m k ∙ by_cases (dec_lt (m + k) 8) �
     by_cases (yes b) = holds_at w i n s (m + k) b
     by_cases (no b) = holds-past w i n s (m + k) (omega arith) ∙ past_end w (i + (m + k)) (omega arith)
 
-pub xor_all : (w : List ℕ) (i z n r : ℕ) → 8 ≤ length w → XorTo w i z → length w ≤ i + 8 → HoldsBytes (eight_from w (length w - 8)) n
+xor_end : (w : List ℕ) (i z n r : ℕ) → 8 ≤ length w → XorTo w i z → length w ≤ i + 8 → HoldsBytes (eight_from w (length w - 8)) n
     → r ≡ total 8 (byte (bit_xor z (n / 2 ^ (8 * (i + 8 - length w))))) → r ≡ total (length w) (λ a. get_or w a 0)
-xor_all w i z n r l t h s e =
+xor_end w i z n r l t h s e =
     let m : ℕ = i + 8 - length w in
     let b : length w - 8 + m ≡ i = omega arith in
     e
     ∙ eight_more w i z (n / 2 ^ (8 * m)) t.passed
     (λ k _. holds_shifted w (length w - 8) n m s (omega arith) k ∙ ap (λ (j : ℕ). get_or w (j + k) 0) b)
     ∙ total_past w (i + 8) h
+
+pub xor_all : (w : List ℕ) (k z n r : ℕ) → 8 ≤ length w → XorTo w (8 * k) z → (length w - 1) / 8 ≤ k → HoldsBytes (eight_from w (length w - 8)) n
+    → r ≡ total 8 (byte (bit_xor z (n / 2 ^ (8 * (8 * ((length w - 1) / 8) + 8 - length w))))) → r ≡ total (length w) (λ a. get_or w a 0)
+xor_all w k z n r l t h s e =
+    let m = t.most in
+    let q : (length w - 1) / 8 ≡ k = omega arith in
+    xor_end w (8 * k) z n r l t (omega arith) s (e ∙ ap (λ (j : ℕ). total 8 (byte (bit_xor z (n / 2 ^ (8 * (8 * j + 8 - length w)))))) q)
 
 pub xor_few : (w : List ℕ) (n r : ℕ) → length w < 8 → HoldsBytes (eight_from w 0) n → r ≡ total 8 (byte n) → r ≡ total (length w) (λ a. get_or w a 0)
 xor_few w n r h s e =

@@ -19,10 +19,8 @@ pub fn all_low(bytes: &[u8]) -> bool
         return eight_low(few(bytes));
     }
     let mut met = eight_at(bytes, n - 8);
-    let mut i: usize = 0;
-    while i + 8 < n {
-        met = met | eight_at(bytes, i);
-        i += 8;
+    for k in 0..(n - 1) / 8 {
+        met |= eight_at(bytes, 8 * k);
     }
     eight_low(met)
 }
@@ -35,13 +33,12 @@ pub fn xor_of(bytes: &[u8]) -> u8
     if n < 8 {
         return folded(few(bytes));
     }
+    let turns = (n - 1) / 8;
     let mut z: u64 = 0;
-    let mut i: usize = 0;
-    while i + 8 < n {
-        z = z ^ eight_at(bytes, i);
-        i += 8;
+    for k in 0..turns {
+        z ^= eight_at(bytes, 8 * k);
     }
-    let last = eight_at(bytes, n - 8) >> (8 * (i + 8 - n));
+    let last = eight_at(bytes, n - 8) >> (8 * (8 * turns + 8 - n));
     folded(z ^ last)
 }
 
@@ -79,7 +76,7 @@ fn eight_at(bytes: &[u8], i: usize) -> u64
     )
 }
 
-// The first eight bytes as one number, with 0 for those past the end.
+// The first eight bytes as one number, with 0 for those past the end. Beside `eight_at` for speed: that one has no test for the end.
 fn few(bytes: &[u8]) -> u64
     ensures { HoldsBytes (eight_from bytes.now 0) result }
 {
@@ -99,28 +96,12 @@ fn few(bytes: &[u8]) -> u64
 pub fn byte_at(bytes: &[u8], a: usize) -> u8
     ensures { result ≡ get_or bytes.now a 0 }
 {
-    if a < bytes.len() {
-        return bytes[a];
-    }
-    0
+    bytes.get(a).copied().unwrap_or(0)
 }
 
-// Eight bytes as one number, the first lowest: the compiler makes one load of it.
+// Eight bytes as one number, the first lowest: the compiler makes one load of it. Eight arguments, since callers read them at indexes of their own.
 pub fn eight(a: u8, b: u8, c: u8, d: u8, e: u8, f: u8, g: u8, h: u8) -> u64
     ensures { HoldsBytes (a ∷ b ∷ c ∷ d ∷ e ∷ f ∷ g ∷ h ∷ []) result }
 {
-    wide(a)
-        + wide(b) * 256
-        + wide(c) * 65536
-        + wide(d) * 16777216
-        + wide(e) * 4294967296
-        + wide(f) * 1099511627776
-        + wide(g) * 281474976710656
-        + wide(h) * 72057594037927936
-}
-
-fn wide(c: u8) -> u64
-    ensures { result ≡ c }
-{
-    c as u64
+    u64::from_le_bytes([a, b, c, d, e, f, g, h])
 }

@@ -1,16 +1,16 @@
 -- What the encoder's code does, a turn and a way out at a time, over plain variables.
 use mathlib.Core.Path.{◌≡◌, refl, sym, ap, ap₂, ◌∙◌, subst}
-use mathlib.Core.Bool.{true, false}
 use mathlib.Core.List.{List, [], ◌∷◌, ◌++◌, append-nil, append_assoc}
-use Prim.Native.Nat.{ℕ, suc, ◌+◌, ◌-◌, ◌/◌, ◌%◌, ◌<◌, ◌≤◌}
+use Prim.Native.Nat.{ℕ, suc, ◌+◌, ◌/◌, ◌%◌, ◌<◌, ◌≤◌}
 use native.Mathlib.Nat.{add-zero, zero-add}
 use native.Mathlib.Numerals.{add-one}
 use native.Mathlib.Omega.{arith}
 use borrow.Author.Count.{below_more}
-use lib.Bits.{bit_xor, bit_or, or_add_and, or_comm, or_lt, and_le_r}
+use borrow.Rule.Slice.PartMut.{put_mid}
+use lib.Bits.{bit_xor}
 use lib.Dec.{T, eqb, eqb→eq}
-use lib.ListN.{length, get_or, set, take, drop, replicate, length-append, length-take, length-drop, length-set, get_or-eq_default, drop_of_length-le}
-use lib.Seq.{ext_get_or, get_or-set_same, get_or-set_other, take-length, take_at, set_at}
+use lib.ListN.{length, get_or, set, take, drop, replicate, length-append, length-drop, length-set, get_or-eq_default, drop_of_length-le}
+use lib.Seq.{ext_get_or, get_or-set_same, get_or-set_other, take_at, set_at}
 use Rattle.numbers.proofs.Range.{each, each_at}
 use Rattle.numbers.specs.Total.{total}
 use Rattle.field.specs.Field.{sum, product}
@@ -19,16 +19,12 @@ use Rattle.lanes.specs.Lanes.{pack, lane}
 use Rattle.lanes.proofs.Laws.{lane_zero, lane_suc, lane_pack}
 use Rattle.code.specs.Word.{Characters}
 use Rattle.code.specs.Inside.{PowerSums}
-use Rattle.code.proofs.Words.{characters_below}
-use Rattle.refusal.specs.Promise.{Test, Tells}
-use Rattle.refusal.proofs.Laws.{tells_yes, tells_no}
+use Rattle.refusal.specs.Promise.{Test}
 use Rattle.refusal.proofs.Ladder.{Yes, Met, FailsAt, answer_at, refuses, succeeds, declines, replies}
 use Rattle.encoder.specs.declared.Register.{Register}
-use Rattle.encoder.specs.declared.Stepped.{Stepped}
-use Rattle.encoder.specs.declared.StepAnswer.{StepAnswer}
 use Rattle.encoder.specs.Division.{remainder}
 use Rattle.encoder.specs.Register.{stepped, next, checks_of}
-use Rattle.encoder.specs.Promises.{encoding_tests, LineWith, Encodes, step_numbers, step_tests, Steps, check_tests, Checks}
+use Rattle.encoder.specs.Promises.{encoding_tests, LineWith, Encodes, step_tests, Steps, check_tests, Checks}
 use Rattle.encoder.specs.Interpolation.{ChecksWith, eleven}
 use Rattle.encoder.specs.Inside.{information, InformationOf, Ended, LinePut}
 use Rattle.encoder.proofs.Division.{below, lower}
@@ -121,38 +117,6 @@ divided_all held c feedback rest left i h d =
     ext_get_or 0 (set left 10 t) (stepped held c) (long ∙ sym (stepped_long held c d.long))
     (λ k b. divided_at held c feedback rest left 10 t (subst (DividedTo held c feedback rest left) j d) v k (omega arith))
 
--- ---- whether what is held is in range
-
--- all is below 64 exactly when the first i characters are
-pub record AllTo (held : List ℕ) (all i : ℕ) : Type 0 where
-  pub most : i ≤ 11
-  pub long : length held ≡ 11
-  pub tells : all < 64 → (k : ℕ) → k < i → get_or held k 0 < 64
-  pub told : ((k : ℕ) → k < i → get_or held k 0 < 64) → all < 64
-
-pub all_none : (held : List ℕ) → length held ≡ 11 → AllTo held 0 0
-all_none held h = record { most = omega arith; long = h; tells = λ l k b. absurd (omega arith); told = λ f. omega arith }
-
-or_left : (a b : ℕ) → bit_or a b < 64 → a < 64
-or_left a b h = omega (arith, or_add_and a b, and_le_r a b)
-
-pub all_again : (held : List ℕ) (all i : ℕ) → i < 11 → AllTo held all i → AllTo held (bit_or all (get_or held i 0)) (i + 1)
-all_again held all i h t =
-    record {
-      most = omega arith;
-      long = t.long;
-      tells = λ l.
-          below_more (λ (k : ℕ). get_or held k 0 < 64) i (t.tells (or_left all (get_or held i 0) l))
-          (or_left (get_or held i 0) all (subst (λ (n : ℕ). n < 64) (or_comm all (get_or held i 0)) l));
-      told = λ f. or_lt 6 all (get_or held i 0) (t.told (λ k b. f k (omega arith))) (f i (omega arith));
-    }
-
-pub all_over : (held : List ℕ) (all i : ℕ) → 11 ≤ i → AllTo held all i → 63 < all → Tells (Characters held) false
-all_over held all i h t l = tells_no (λ f. let b : all < 64 = t.told (λ k m. f k) in omega arith)
-
-pub all_low : (held : List ℕ) (all i : ℕ) → 11 ≤ i → AllTo held all i → all ≤ 63 → Tells (Characters held) true
-all_low held all i h t l = tells_yes (characters_below held 11 (omega (arith, t.long)) (λ k b. t.tells (omega arith) k (omega arith)))
-
 -- ---- the marks
 
 pub marked_is : (held : List ℕ) → length held ≡ 11
@@ -218,16 +182,17 @@ unpacked_all ten s checks rest i h u =
 high_half : (n : ℕ) → n / 64 % 64 ≡ n % 4096 / 64
 high_half n = omega arith
 
-pub information_copied : (t copied : List ℕ) (n : ℕ) → length t ≡ 50 → copied ≡ take (length t) t ++ drop (length t) (replicate 63 0)
-    → InformationOf t n (set (set copied 50 (n / 64 % 64)) 51 (n % 64))
+pub information_copied : (t copied : List ℕ) (n : ℕ) → length t ≡ 50 → copied ≡ t → InformationOf t n (set (set (copied ++ replicate 13 0) 50 (n / 64 % 64)) 51 (n % 64))
 unfolding information
-information_copied t copied n h e = record { is = λ _. halves; none = λ d. absurd (d h) }
+information_copied t copied n h e =
+    record {
+      is = λ _. ap (λ (l : List ℕ). set (set (l ++ replicate 13 0) 50 (n / 64 % 64)) 51 (n % 64)) e ∙ halves;
+      none = λ d. absurd (d h);
+    }
   where
-    stored : (m : ℕ) → set (set copied 50 (m / 64)) 51 (m % 64) ≡ information t m ++ replicate 11 0
+    stored : (m : ℕ) → set (set (t ++ replicate 13 0) 50 (m / 64)) 51 (m % 64) ≡ information t m ++ replicate 11 0
     stored n =
-        ap (λ (l : List ℕ). set (set l 50 (n / 64)) 51 (n % 64))
-        (e ∙ ap₂ (λ (l : List ℕ) (m : ℕ). l ++ drop m (replicate 63 0)) (take-length t) h)
-        ∙ ap (λ (l : List ℕ). set l 51 (n % 64)) (set_at t 0 (replicate 12 0) (n / 64) 50 h)
+        ap (λ (l : List ℕ). set l 51 (n % 64)) (set_at t 0 (replicate 12 0) (n / 64) 50 h)
         ∙ ap (λ (l : List ℕ). set l 51 (n % 64)) (sym (append_assoc t (n / 64 ∷ []) (replicate 12 0)))
         ∙ set_at (t ++ n / 64 ∷ []) 0 (replicate 11 0) (n % 64) 51 (omega (arith, length-append t (n / 64 ∷ [])))
         ∙ append_assoc t (n / 64 ∷ []) (n % 64 ∷ replicate 11 0)
@@ -236,27 +201,11 @@ information_copied t copied n h e = record { is = λ _. halves; none = λ d. abs
     low_half : n % 64 ≡ n % 4096 % 64
     low_half = omega arith
 
-    halves : set (set copied 50 (n / 64 % 64)) 51 (n % 64) ≡ information t (n % 4096) ++ replicate 11 0
-    halves = ap₂ (λ (p q : ℕ). set (set copied 50 p) 51 q) (high_half n) low_half ∙ stored (n % 4096)
+    halves : set (set (t ++ replicate 13 0) 50 (n / 64 % 64)) 51 (n % 64) ≡ information t (n % 4096) ++ replicate 11 0
+    halves = ap₂ (λ (p q : ℕ). set (set (t ++ replicate 13 0) 50 p) 51 q) (high_half n) low_half ∙ stored (n % 4096)
 
 pub no_information : (t : List ℕ) (n : ℕ) → (length t ≡ 50 → ⊥) → InformationOf t n (replicate 63 0)
 no_information t n d = record { is = λ h. absurd (d h); none = λ _. refl }
-
--- ---- the output: all its 63 bytes, then the last eleven again
-
-pub both_written : (word checks old out part : List ℕ) → length word ≡ 63 → length checks ≡ 11 → length old ≡ 63
-    → out ≡ take (length word) word ++ drop (length word) old
-    → part ≡ take (length checks) checks ++ drop (length checks) (take (length out - 52) (drop 52 out))
-    → take 52 out ++ (part ++ drop (length out - 52) (drop 52 out)) ≡ take 52 word ++ checks
-both_written word checks old out part hw hc ho e f =
-    let a : out ≡ word =
-    e ∙ ap₂ ◌++◌ (take-length word) (drop_of_length-le old {i = length word} (omega arith)) ∙ append-nil word in
-    let m : length out ≡ 63 = ap length a ∙ hw in
-    let p : part ≡ checks =
-    f ∙ ap₂ ◌++◌ (take-length checks)
-    (drop_of_length-le (take (length out - 52) (drop 52 out)) {i = length checks} (omega (arith, length-take (length out - 52) (drop 52 out))))
-    ∙ append-nil checks in
-    ap₂ ◌++◌ (ap (take 52) a) (ap₂ ◌++◌ p (drop_of_length-le (drop 52 out) {i = length out - 52} (omega (arith, length-drop 52 out))) ∙ append-nil checks)
 
 -- ---- the ways out of encoding a line
 
@@ -274,12 +223,20 @@ module _ (t : List ℕ) (n : ℕ) (old : List ℕ) where
 
 -- ---- a line put
 
-pub line_put : (w s r k old new : List ℕ) → length old ≡ 63 → PowerSums w s → ChecksWith s r → k ≡ checks_of r → new ≡ take 52 w ++ k → LinePut w old new
-line_put w s r k old new h ps cw ek en =
+pub line_ended : (w s r k last : List ℕ) → length w ≡ 63 → PowerSums w s → ChecksWith s r → k ≡ checks_of r → last ≡ k → Ended w (put_mid 52 11 w last)
+line_ended w s r k last h ps cw ek el =
     record {
-      over = λ _. record { sums = s; checks = r; of_word = ps; with_sums = cw; is = en ∙ ap (λ (l : List ℕ). take 52 w ++ l) ek };
-      beside = λ d. absurd (d h);
+      sums = s;
+      checks = r;
+      of_word = ps;
+      with_sums = cw;
+      is =
+          ap (λ (l : List ℕ). take 52 w ++ (last ++ l)) (drop_of_length-le (drop 52 w) {i = 11} (omega (arith, length-drop 52 w)))
+          ∙ ap (λ (l : List ℕ). take 52 w ++ l) (append-nil last ∙ el ∙ ek);
     }
+
+pub line_put : (w l old new : List ℕ) → length old ≡ 63 → Ended w l → new ≡ l → LinePut w old new
+line_put w l old new h ended e = record { over = λ _. subst (Ended w) (sym e) ended; beside = λ d. absurd (d h) }
 
 pub no_line_put : (w old : List ℕ) → (length old ≡ 63 → ⊥) → LinePut w old old
 no_line_put w old d = record { over = λ h. absurd (d h); beside = λ _. refl }
@@ -304,10 +261,6 @@ the_line t n w old new h c m room of-them put =
 -- ---- the ways out of a step
 
 module _ (r : Register) (c : ℕ) where
-  pub step_answered : (s : Stepped) (q : Register) (a : StepAnswer) → (s.register ≡ q) × (s.answer ≡ a) → Steps r c (step_numbers a) q
-      → Steps r c (step_numbers s.answer) s.register
-  step_answered s q a e p = rw e.0 (rw e.1 p)
-
   pub step_refused : (i : ℕ) → FailsAt i (step_tests r c) → Steps r c (answer_at i (step_tests r c) ∷ []) r
   unfolding Steps
   step_refused = refuses (λ fields q. (fields ≡ []) × (q ≡ next r c)) 0 r (step_tests r c)

@@ -7,23 +7,18 @@ use native.Mathlib.Nat.{zero-add}
 use native.Mathlib.Omega.{arith}
 use lib.ListN.{length, get_or, take, drop, replicate, length-append}
 use lib.Seq.{drop_at}
+use Rattle.std.specs.Prelude.{Result, Ok, Err}
 use Rattle.numbers.proofs.Cases.{same_or_not}
+use Rattle.refusal.specs.declared.Refusal.{Refusal}
 use Rattle.refusal.proofs.Laws.{one_refusal, refusal_positive, passed}
 use Rattle.refusal.proofs.Theorems.{one_result}
 use Rattle.code.specs.Word.{Characters, Clean}
 use Rattle.code.proofs.Theorems.{one_line_of_text, one_list_of_sums}
-use Rattle.encoder.specs.declared.LineEncoding.{LineEncoding}
-use Rattle.encoder.specs.declared.LineEncoding.TheVariants as L
-use Rattle.encoder.specs.declared.StepAnswer.{StepAnswer}
-use Rattle.encoder.specs.declared.StepAnswer.TheVariants as S
-use Rattle.encoder.specs.declared.CheckAnswer.{CheckAnswer}
-use Rattle.encoder.specs.declared.CheckAnswer.TheVariants as C
 use Rattle.encoder.specs.declared.Register.{Register}
 use Rattle.encoder.specs.declared.Stepped.{Stepped}
-use Rattle.encoder.specs.declared.Checked.{Checked}
 use Rattle.encoder.specs.Division.{plus, scaled, generator, remainder, times_generator, GeneratorDivides, Remains}
 use Rattle.encoder.specs.Register.{empty, next, checks_of}
-use Rattle.encoder.specs.Promises.{encoding_numbers, encoding_tests, LineWith, Encodes, step_numbers, Steps, answer_number, check_numbers, Checks}
+use Rattle.encoder.specs.Promises.{encoding_numbers, encoding_tests, LineWith, Encodes, step_numbers, Steps, check_numbers, Checks}
 use Rattle.encoder.specs.Runs.{Through, HoldsAfter}
 use Rattle.encoder.specs.Interpolation.{ChecksWith}
 use Rattle.encoder.specs.Inside.{information, InformationOf, Ended, LinePut}
@@ -112,43 +107,38 @@ two_ways t n old l r numbers e run asked =
 
 -- ---- any two results that a promise allows are equal
 
-one_encoding_number : (a b : LineEncoding) → encoding_numbers a ≡ encoding_numbers b → a ≡ b
-one_encoding_number L.Written L.Written e = refl
-one_encoding_number L.Written (L.Refused s) e = absurd (refusal_positive s (sym (ap (λ (l : List ℕ). get_or l 0 0) e)))
-one_encoding_number (L.Refused r) L.Written e = absurd (refusal_positive r (ap (λ (l : List ℕ). get_or l 0 0) e))
-one_encoding_number (L.Refused r) (L.Refused s) e = ap L.Refused (one_refusal r s (ap (λ (l : List ℕ). get_or l 0 0) e))
+head_of : (m n : ℕ) (ms ns : List ℕ) → m ∷ ms ≡ n ∷ ns → m ≡ n
+head_of m n ms ns e = cc
 
-pub one_encoding : (t : List ℕ) (n : ℕ) (old : List ℕ) (a b : LineEncoding) (x y : List ℕ)
+one_number : (a b : Result Unit Refusal) → encoding_numbers a ≡ encoding_numbers b → a ≡ b
+one_number (Ok x) (Ok y) e = refl
+one_number (Ok x) (Err s) e = absurd (refusal_positive s (sym (head_of _ _ _ _ e)))
+one_number (Err r) (Ok y) e = absurd (refusal_positive r (head_of _ _ _ _ e))
+one_number (Err r) (Err s) e = ap Err (one_refusal r s (head_of _ _ _ _ e))
+
+pub one_encoding : (t : List ℕ) (n : ℕ) (old : List ℕ) (a b : Result Unit Refusal) (x y : List ℕ)
     → Encodes t n old (encoding_numbers a) x → Encodes t n old (encoding_numbers b) y → (a ≡ b) × (x ≡ y)
 unfolding Encodes
 one_encoding t n old a b x y p q =
     let e =
     one_result (encoding_tests t n (length old)) (λ fields l. (fields ≡ []) × LineWith t n l) 0
     (λ _ f g x y s t. (s.0 ∙ sym t.0, one_line _ _ x y s.1 t.1)) old (encoding_numbers a) (encoding_numbers b) x y p q in
-    (one_encoding_number a b e.0, e.1)
-
-one_step_number : (a b : StepAnswer) → step_numbers a ≡ step_numbers b → a ≡ b
-one_step_number S.Taken S.Taken e = refl
-one_step_number S.Taken (S.Refused s) e = absurd (refusal_positive s (sym (ap (λ (l : List ℕ). get_or l 0 0) e)))
-one_step_number (S.Refused r) S.Taken e = absurd (refusal_positive r (ap (λ (l : List ℕ). get_or l 0 0) e))
-one_step_number (S.Refused r) (S.Refused s) e = ap S.Refused (one_refusal r s (ap (λ (l : List ℕ). get_or l 0 0) e))
+    (one_number a b e.0, e.1)
 
 pub one_step : (r : Register) (c : ℕ) (a b : Stepped) → Steps r c (step_numbers a.answer) a.register → Steps r c (step_numbers b.answer) b.register → a ≡ b
 one_step r c a b p q =
     let e = one_stepping r c (step_numbers a.answer) (step_numbers b.answer) a.register b.register p q in
-    ap₂ (λ (x : Register) (y : StepAnswer). record { register = x; answer = y }) e.1 (one_step_number a.answer b.answer e.0)
+    ap₂ (λ (x : Register) (y : Result Unit Refusal). record { register = x; answer = y }) e.1 (one_number a.answer b.answer e.0)
 
-one_answer_number : (a b : CheckAnswer) → answer_number a ≡ answer_number b → a ≡ b
-one_answer_number C.Given C.Given e = refl
-one_answer_number C.Given (C.Refused s) e = absurd (refusal_positive s (sym e))
-one_answer_number (C.Refused r) C.Given e = absurd (refusal_positive r e)
-one_answer_number (C.Refused r) (C.Refused s) e = ap C.Refused (one_refusal r s e)
+one_checking_number : (a b : Result (List ℕ) Refusal) → check_numbers a ≡ check_numbers b → a ≡ b
+one_checking_number (Ok k) (Ok m) e = ap Ok (ap (drop 1) e)
+one_checking_number (Ok k) (Err s) e = absurd (refusal_positive s (sym (head_of _ _ _ _ e)))
+one_checking_number (Err r) (Ok m) e = absurd (refusal_positive r (head_of _ _ _ _ e))
+one_checking_number (Err r) (Err s) e = ap Err (one_refusal r s (head_of _ _ _ _ e))
 
 -- asking does not change the register, so this is also that asking again gives the same
-pub one_check : (r : Register) (a b : Checked) → Checks r (check_numbers a) → Checks r (check_numbers b) → a ≡ b
-one_check r a b p q =
-    let e = one_asking r (check_numbers a) (check_numbers b) p q in
-    ap₂ (λ (x : List ℕ) (y : CheckAnswer). record { checks = x; answer = y }) (ap (drop 1) e) (one_answer_number a.answer b.answer (ap (λ (l : List ℕ). get_or l 0 0) e))
+pub one_check : (r : Register) (a b : Result (List ℕ) Refusal) → Checks r (check_numbers a) → Checks r (check_numbers b) → a ≡ b
+one_check r a b p q = one_checking_number a b (one_asking r (check_numbers a) (check_numbers b) p q)
 
 -- ---- inner functions
 

@@ -1,25 +1,19 @@
 -- What encoding a line at once, a step of the register and asking it for the checks promise, for every input.
-use Rattle.std.specs.Prelude.{◌≡◌, List, [], ◌∷◌, ℕ, ◌<◌, ◌≤◌, length}
+use Rattle.std.specs.Prelude.{◌≡◌, Result, Ok, Err, List, [], ◌∷◌, ℕ, ◌<◌, ◌≤◌, length, replicate}
+use Rattle.refusal.specs.declared.Refusal.{Refusal}
 use Rattle.refusal.specs.declared.Refusal.TheVariants.{InputLength, ValueOver, NumberOver, OutputLength, RegisterFull, RegisterShort}
 use Rattle.refusal.specs.Number.{number_of}
 use Rattle.refusal.specs.Promise.{Test, ◌else◌, Promise, Replies}
 use Rattle.code.specs.Word.{Characters, Line, text, number}
-use Rattle.encoder.specs.declared.LineEncoding.{LineEncoding}
-use Rattle.encoder.specs.declared.LineEncoding.TheVariants as L
-use Rattle.encoder.specs.declared.StepAnswer.{StepAnswer}
-use Rattle.encoder.specs.declared.StepAnswer.TheVariants as S
-use Rattle.encoder.specs.declared.CheckAnswer.{CheckAnswer}
-use Rattle.encoder.specs.declared.CheckAnswer.TheVariants as C
-use Rattle.encoder.specs.declared.Checked.{Checked}
 use Rattle.encoder.specs.declared.Register.{Register}
 use Rattle.encoder.specs.Register.{next, checks_of}
 
 -- ---- a line at once
 
 -- the paper's number of an encoding
-abbrev pub encoding_numbers : LineEncoding → List ℕ
-encoding_numbers L.Written = 0 ∷ []
-encoding_numbers (L.Refused r) = number_of r ∷ []
+abbrev pub encoding_numbers : Result Unit Refusal → List ℕ
+encoding_numbers (Ok x) = 0 ∷ []
+encoding_numbers (Err r) = number_of r ∷ []
 
 abbrev pub encoding_tests : List ℕ → ℕ → ℕ → List Test
 encoding_tests t n room =
@@ -43,9 +37,8 @@ Encodes t n old numbers new =
 -- ---- by the character
 
 -- the paper's number of a step
-abbrev pub step_numbers : StepAnswer → List ℕ
-step_numbers S.Taken = 0 ∷ []
-step_numbers (S.Refused r) = number_of r ∷ []
+abbrev pub step_numbers : Result Unit Refusal → List ℕ
+step_numbers = encoding_numbers
 
 abbrev pub step_tests : Register → ℕ → List Test
 step_tests r c = (r.count < 52 else RegisterFull) ∷ (Characters r.held else ValueOver) ∷ (c ≤ 63 else ValueOver) ∷ []
@@ -55,12 +48,9 @@ unfoldable pub Steps : Register → ℕ → List ℕ → Register → Type 0
 Steps r c numbers new = Promise (step_tests r c) (λ fields q. (fields ≡ []) × (q ≡ next r c)) 0 r numbers new
 
 -- the paper's numbers of asking: the answer, and the eleven checks
-abbrev pub answer_number : CheckAnswer → ℕ
-answer_number C.Given = 0
-answer_number (C.Refused r) = number_of r
-
-abbrev pub check_numbers : Checked → List ℕ
-check_numbers k = answer_number k.answer ∷ k.checks
+abbrev pub check_numbers : Result (List ℕ) Refusal → List ℕ
+check_numbers (Ok checks) = 0 ∷ checks
+check_numbers (Err r) = number_of r ∷ replicate 11 0
 
 abbrev pub check_tests : Register → List Test
 check_tests r = (r.count ≤ 52 else RegisterFull) ∷ (52 ≤ r.count else RegisterShort) ∷ (Characters r.held else ValueOver) ∷ []

@@ -1,26 +1,17 @@
 // The encoder: a line at once, and the recorder's register, which takes one character at a time.
 #![tactic(auto)]
 
-ghost use Rattle.std.specs.Prelude.{◌≡◌, ◌++◌, length, get_or, take};
-ghost use Rattle.refusal.specs.Promise.{Tells};
-ghost use Rattle.code.specs.Word.{Characters};
+ghost use Rattle.std.specs.Prelude.{◌≡◌, get_or};
 ghost use Rattle.encoder.specs.Register.{empty, stepped, checks_of};
 ghost use Rattle.encoder.specs.Promises.{encoding_numbers, Encodes, step_numbers, Steps, check_numbers, Checks};
 ghost use Rattle.encoder.specs.Interpolation.{ChecksWith, eleven};
-ghost use Rattle.encoder.specs.Inside.{InformationOf, LinePut};
+ghost use Rattle.encoder.specs.Inside.{InformationOf, Ended, LinePut};
 
 use eights::all_low;
 use refusal::Refusal;
 
 // The generator's coefficients but the highest and the lowest, which are 1, in lanes.
 const MIDDLE: u64 = 377473087143165780;
-
-// The answer of encoding a line at once.
-#[derive(Clone, Copy)]
-pub enum LineEncoding {
-    Written,
-    Refused(Refusal),
-}
 
 // The recorder's encoder: eleven characters, highest degree first, and how many were taken.
 #[derive(Clone, Copy)]
@@ -29,32 +20,11 @@ pub struct Register {
     pub count: u8,
 }
 
-// The answer of a step.
-#[derive(Clone, Copy)]
-pub enum StepAnswer {
-    Taken,
-    Refused(Refusal),
-}
-
 // The register after a step, and the answer.
 #[derive(Clone, Copy)]
 pub struct Stepped {
     pub register: Register,
-    pub answer: StepAnswer,
-}
-
-// The answer of asking for the checks.
-#[derive(Clone, Copy)]
-pub enum CheckAnswer {
-    Given,
-    Refused(Refusal),
-}
-
-// The eleven checks, zeros in a refusal, and the answer.
-#[derive(Clone, Copy)]
-pub struct Checked {
-    pub checks: [u8; 11],
-    pub answer: CheckAnswer,
+    pub answer: Result<(), Refusal>,
 }
 
 // One step of the division.
@@ -64,40 +34,12 @@ fn divided(held: [u8; 11], c: u8) -> [u8; 11]
     let feedback = held[0] ^ c;
     let mut rest = lanes::scale_constant(MIDDLE, feedback);
     let mut left = [0u8; 11];
-    let mut i: usize = 0;
-    while i < 10 {
+    for i in 0..10 {
         left[i] = held[i + 1] ^ (rest % 64) as u8;
         rest = rest / 64;
-        i += 1;
     }
     left[10] = feedback % 64;
     left
-}
-
-// Whether each character that is held is at most 63, by one test of them all.
-fn held_in_range(held: [u8; 11]) -> bool
-    ensures { Tells (Characters held) result }
-{
-    let mut all: u8 = 0;
-    let mut i: usize = 0;
-    while i < 11 {
-        all = all | held[i];
-        i += 1;
-    }
-    if all > 63 {
-        return false;
-    }
-    true
-}
-
-// The register and the answer, written in one place.
-fn answered(register: Register, answer: StepAnswer) -> Stepped
-    ensures { (result.register ≡ register) × (result.answer ≡ answer) }
-{
-    Stepped {
-        register: register,
-        answer: answer,
-    }
 }
 
 // The eleven checks with these power sums, S_-5 first.
@@ -132,11 +74,9 @@ fn unpacked(ten: u64, zeroth: u8) -> [u8; 11]
     let mut checks = [0u8; 11];
     checks[10] = lanes::sum_of(ten) ^ (zeroth % 64);
     let mut rest = ten;
-    let mut i: usize = 0;
-    while i < 10 {
+    for i in 0..10 {
         checks[i] = (rest % 64) as u8;
         rest = rest / 64;
-        i += 1;
     }
     checks
 }
@@ -161,39 +101,39 @@ pub fn information_of(text: &[u8], number: u16) -> [u8; 63]
     if text.len() != 50 {
         return characters;
     }
-    copying::copy(text, &mut characters);
+    characters[..50].copy_from_slice(text);
     characters[50] = (number / 64 % 64) as u8;
     characters[51] = (number % 64) as u8;
     characters
 }
 
-// Writes a whole line: the first 52 characters of a word, and the checks.
-fn write_line(word: [u8; 63], checks: [u8; 11], output: &mut [u8])
-    requires { length output.old ≡ 63 }
-    ensures { output.new ≡ take 52 word ++ checks }
+// The line with the first 52 characters of a word that ends in eleven zeros.
+fn line_of(mut word: [u8; 63]) -> [u8; 63]
+    ensures { Ended word result }
 {
-    copying::copy(&word, output);
-    copying::copy(&checks, &mut output[52..]);
+    let checks = marked(checks_from(sums::power_sums(&word)));
+    word[52..].copy_from_slice(&checks);
+    word
 }
 
 // Encodes a line at once: writes the one line with this text and number.
-pub fn encode_line(text: &[u8], number: u16, output: &mut [u8]) -> LineEncoding
+pub fn encode_line(text: &[u8], number: u16, output: &mut [u8]) -> Result<(), Refusal>
     ensures { Encodes text.now number output.old (encoding_numbers result) output.new }
 {
     if text.len() != 50 {
-        return LineEncoding::Refused(Refusal::InputLength);
+        return Err(Refusal::InputLength);
     }
     if output.len() != 63 {
-        return LineEncoding::Refused(Refusal::OutputLength);
+        return Err(Refusal::OutputLength);
     }
     if !all_low(text) {
-        return LineEncoding::Refused(Refusal::ValueOver);
+        return Err(Refusal::ValueOver);
     }
     if number > 4095 {
-        return LineEncoding::Refused(Refusal::NumberOver);
+        return Err(Refusal::NumberOver);
     }
     put_line(information_of(text, number), output);
-    LineEncoding::Written
+    Ok(())
 }
 
 // Writes the line with the first 52 characters of a word that ends in eleven zeros over an output of 63 bytes, and over no other.
@@ -203,8 +143,7 @@ pub fn put_line(word: [u8; 63], output: &mut [u8])
     if output.len() != 63 {
         return;
     }
-    let checks = marked(checks_from(sums::power_sums(&word)));
-    write_line(word, checks, output);
+    output.copy_from_slice(&line_of(word));
 }
 
 impl Register {
@@ -218,53 +157,48 @@ impl Register {
         }
     }
 
-    // Takes one more character.
+    // Takes one more character. 01's forms: the state goes by value, `mut self`, and comes back with its answer; where that is a refusal it is as it was.
     pub fn step(mut self, c: u8) -> Stepped
         ensures { Steps self c (step_numbers result.answer) result.register }
     {
-        if self.count >= 52 {
-            return answered(self, StepAnswer::Refused(Refusal::RegisterFull));
+        let answer = self.take(c);
+        Stepped {
+            register: self,
+            answer,
         }
-        let held = self.held;
-        if !held_in_range(held) {
-            return answered(self, StepAnswer::Refused(Refusal::ValueOver));
+    }
+
+    // Takes one more character where it lies; one that is refused leaves the register as it was.
+    fn take(&mut self, c: u8) -> Result<(), Refusal>
+        ensures { Steps self.old c (step_numbers result) self.new }
+    {
+        if self.count >= 52 {
+            return Err(Refusal::RegisterFull);
+        }
+        if !all_low(&self.held) {
+            return Err(Refusal::ValueOver);
         }
         if c > 63 {
-            return answered(self, StepAnswer::Refused(Refusal::ValueOver));
+            return Err(Refusal::ValueOver);
         }
-        let left = divided(held, c);
-        self.held = left;
-        self.count = self.count + 1;
-        answered(self, StepAnswer::Taken)
+        self.held = divided(self.held, c);
+        self.count += 1;
+        Ok(())
     }
 
     // The checks of a register that has taken 52 characters; the register stays the caller's.
-    pub fn checks(self) -> Checked
+    pub fn checks(self) -> Result<[u8; 11], Refusal>
         ensures { Checks self (check_numbers result) }
     {
         if self.count > 52 {
-            return Checked {
-                checks: [0; 11],
-                answer: CheckAnswer::Refused(Refusal::RegisterFull),
-            };
+            return Err(Refusal::RegisterFull);
         }
         if self.count < 52 {
-            return Checked {
-                checks: [0; 11],
-                answer: CheckAnswer::Refused(Refusal::RegisterShort),
-            };
+            return Err(Refusal::RegisterShort);
         }
-        let held = self.held;
-        if !held_in_range(held) {
-            return Checked {
-                checks: [0; 11],
-                answer: CheckAnswer::Refused(Refusal::ValueOver),
-            };
+        if !all_low(&self.held) {
+            return Err(Refusal::ValueOver);
         }
-        let checks = marked(held);
-        Checked {
-            checks: checks,
-            answer: CheckAnswer::Given,
-        }
+        Ok(marked(self.held))
     }
 }

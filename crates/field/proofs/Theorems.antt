@@ -6,14 +6,14 @@ use mathlib.Core.List.{List, [], ◌∷◌, map}
 use Prim.Native.Nat.{ℕ, ◌<◌, ◌≤◌}
 use native.Mathlib.Omega.{arith}
 use lib.ListN.{get_or}
+use Rattle.std.proofs.Common.{Result, Ok, Err}
+use Rattle.refusal.specs.declared.Refusal.{Refusal}
 use Rattle.refusal.specs.declared.Refusal.TheVariants.{ValueOver, QuotientByZero}
 use Rattle.refusal.specs.Promise.{Test}
 use Rattle.refusal.proofs.Laws.{one_refusal, refusal_positive, Passed}
 use Rattle.refusal.proofs.Ladder.{◌then◌, denied}
 use Rattle.refusal.proofs.Theorems.{one_reply}
 use Rattle.numbers.proofs.Cases.{same_or_not, le_or_lt}
-use Rattle.field.specs.declared.Element.{Element}
-use Rattle.field.specs.declared.Element.TheVariants.{Value, Refused}
 use Rattle.field.specs.Field.{sum, times_x, shifted, product, α, power, Log, Returns, Quotient}
 use Rattle.field.specs.Inside.{looked_up, Products, inverse}
 use Rattle.field.specs.Promises.{element_numbers, Operands, operand_tests, division_tests, OneValue, Operates, Sums, Multiplies, Divides}
@@ -67,42 +67,42 @@ pub same_quotients : (u v : ℕ) (a b : List ℕ) → Divides u v a → Divides 
 same_quotients u v = one_operation (division_tests u v) (Quotient u v) (λ t w x p q. one_quotient u v w x (let h : v ≤ 63 = t.0.second in omega arith) p q)
 
 -- and the numbers fix the answer
-pub one_element : (r s : Element) → element_numbers r ≡ element_numbers s → r ≡ s
-one_element (Value v) (Value w) e = ap Value (ap (λ (l : List ℕ). get_or l 1 0) e)
-one_element (Value v) (Refused s) e = absurd (refusal_positive s (sym (ap (λ (l : List ℕ). get_or l 0 0) e)))
-one_element (Refused r) (Value w) e = absurd (refusal_positive r (ap (λ (l : List ℕ). get_or l 0 0) e))
-one_element (Refused r) (Refused s) e = ap Refused (one_refusal r s (ap (λ (l : List ℕ). get_or l 0 0) e))
+pub one_element : (r s : Result ℕ Refusal) → element_numbers r ≡ element_numbers s → r ≡ s
+one_element (Ok v) (Ok w) e = ap Ok (ap (λ (l : List ℕ). get_or l 1 0) e)
+one_element (Ok v) (Err s) e = absurd (refusal_positive s (sym (ap (λ (l : List ℕ). get_or l 0 0) e)))
+one_element (Err r) (Ok w) e = absurd (refusal_positive r (ap (λ (l : List ℕ). get_or l 0 0) e))
+one_element (Err r) (Err s) e = ap Err (one_refusal r s (ap (λ (l : List ℕ). get_or l 0 0) e))
 
-pub one_sum : (u v : ℕ) (r s : Element) → Sums u v (element_numbers r) → Sums u v (element_numbers s) → r ≡ s
+pub one_sum : (u v : ℕ) (r s : Result ℕ Refusal) → Sums u v (element_numbers r) → Sums u v (element_numbers s) → r ≡ s
 one_sum u v r s p q = one_element r s (same_sums u v (element_numbers r) (element_numbers s) p q)
 
-pub one_product : (u v : ℕ) (r s : Element) → Multiplies u v (element_numbers r) → Multiplies u v (element_numbers s) → r ≡ s
+pub one_product : (u v : ℕ) (r s : Result ℕ Refusal) → Multiplies u v (element_numbers r) → Multiplies u v (element_numbers s) → r ≡ s
 one_product u v r s p q = one_element r s (same_products u v (element_numbers r) (element_numbers s) p q)
 
-pub one_division : (u v : ℕ) (r s : Element) → Divides u v (element_numbers r) → Divides u v (element_numbers s) → r ≡ s
+pub one_division : (u v : ℕ) (r s : Result ℕ Refusal) → Divides u v (element_numbers r) → Divides u v (element_numbers s) → r ≡ s
 one_division u v r s p q = one_element r s (same_quotients u v (element_numbers r) (element_numbers s) p q)
 
 -- ---- a quotient by 0
 
 -- is refused with 13
-pub refused_by_zero : (u : ℕ) → u ≤ 63 → Divides u 0 (element_numbers (Refused QuotientByZero))
+pub refused_by_zero : (u : ℕ) → u ≤ 63 → Divides u 0 (element_numbers (Err QuotientByZero))
 refused_by_zero u h = refused (division_tests u 0) (Quotient u 0) 1 (record { first = h; second = omega arith } then by_nothing refl)
 
-pub by_zero : (u : ℕ) → u ≤ 63 → (r : Element) → Divides u 0 (element_numbers r) → r ≡ Refused QuotientByZero
-by_zero u h r p = one_division u 0 r (Refused QuotientByZero) p (refused_by_zero u h)
+pub by_zero : (u : ℕ) → u ≤ 63 → (r : Result ℕ Refusal) → Divides u 0 (element_numbers r) → r ≡ Err QuotientByZero
+by_zero u h r p = one_division u 0 r (Err QuotientByZero) p (refused_by_zero u h)
 
 -- after 2: where an operand is over 63, the answer is 2 whatever the divisor
-pub operands_first : (u v : ℕ) → (Operands u v → ⊥) → (r : Element) → Divides u v (element_numbers r) → r ≡ Refused ValueOver
-operands_first u v n r p = one_division u v r (Refused ValueOver) p (refused (division_tests u v) (Quotient u v) 0 (denied n))
+pub operands_first : (u v : ℕ) → (Operands u v → ⊥) → (r : Result ℕ Refusal) → Divides u v (element_numbers r) → r ≡ Err ValueOver
+operands_first u v n r p = one_division u v r (Err ValueOver) p (refused (division_tests u v) (Quotient u v) 0 (denied n))
 
-pub seventy_by_zero : (r : Element) → Divides 70 0 (element_numbers r) → r ≡ Refused ValueOver
+pub seventy_by_zero : (r : Result ℕ Refusal) → Divides 70 0 (element_numbers r) → r ≡ Err ValueOver
 seventy_by_zero = operands_first 70 0 (λ o. let h : 70 ≤ 63 = o.first in omega arith)
 
 -- and by nothing but 0: of two elements of which the second is not 0 the quotient is given
-pub by_others : (u v : ℕ) → u ≤ 63 → v ≤ 63 → 0 < v → (r : Element) → Divides u v (element_numbers r) → (w : ℕ) × (r ≡ Value w) × Quotient u v w
+pub by_others : (u v : ℕ) → u ≤ 63 → v ≤ 63 → 0 < v → (r : Result ℕ Refusal) → Divides u v (element_numbers r) → (w : ℕ) × (r ≡ Ok w) × Quotient u v w
 by_others u v hu hv p r d =
     let q = a_quotient u v (omega arith) p (omega arith) in
-    (q.0, one_division u v r (Value q.0) d (with_value (division_tests u v) (Quotient u v) q.0 (record { first = hu; second = hv } then p then tt) q.1), q.1)
+    (q.0, one_division u v r (Ok q.0) d (with_value (division_tests u v) (Quotient u v) q.0 (record { first = hu; second = hv } then p then tt) q.1), q.1)
 
 -- ---- the written table
 
@@ -112,9 +112,9 @@ one_table s t p q u v hu hv = p.entry u v hu hv ∙ sym (q.entry u v hu hv)
 
 module _ (rows : List (List ℕ)) (p : Products rows) where
   -- every answer to a product of two elements is what stands in the row of the one and the column of the other
-  pub product_there : (u v : ℕ) → u ≤ 63 → v ≤ 63 → (r : Element) → Multiplies u v (element_numbers r) → r ≡ Value (looked_up rows u v)
+  pub product_there : (u v : ℕ) → u ≤ 63 → v ≤ 63 → (r : Result ℕ Refusal) → Multiplies u v (element_numbers r) → r ≡ Ok (looked_up rows u v)
   product_there u v hu hv r m =
-      one_product u v r (Value (looked_up rows u v)) m
+      one_product u v r (Ok (looked_up rows u v)) m
       (with_value (operand_tests u v) (λ w. w ≡ product u v) (looked_up rows u v) (record { first = hu; second = hv } then tt) (p.entry u v (omega arith) (omega arith)))
 
   -- whichever of the two is the row

@@ -1,16 +1,15 @@
 -- What sum, product and quotient promise, for every two bytes.
-use Rattle.std.specs.Prelude.{◌≡◌, List, [], ◌∷◌, ℕ, ◌<◌, ◌≤◌}
+use Rattle.std.specs.Prelude.{◌≡◌, List, [], ◌∷◌, ℕ, ◌<◌, ◌≤◌, Result, Ok, Err}
+use Rattle.refusal.specs.declared.Refusal.{Refusal}
 use Rattle.refusal.specs.declared.Refusal.TheVariants.{ValueOver, QuotientByZero}
 use Rattle.refusal.specs.Number.{number_of}
 use Rattle.refusal.specs.Promise.{Test, ◌else◌, Replies}
-use Rattle.field.specs.declared.Element.{Element}
-use Rattle.field.specs.declared.Element.TheVariants.{Value, Refused}
 use Rattle.field.specs.Field.{sum, product, Quotient}
 
 -- the paper's numbers of an answer: 0 and the value, or the refusal's number and 0
-abbrev pub element_numbers : Element → List ℕ
-element_numbers (Value v) = 0 ∷ v ∷ []
-element_numbers (Refused r) = number_of r ∷ 0 ∷ []
+abbrev pub element_numbers : Result ℕ Refusal → List ℕ
+element_numbers (Ok v) = 0 ∷ v ∷ []
+element_numbers (Err r) = number_of r ∷ 0 ∷ []
 
 -- no operand is over 63
 pub record Operands (u v : ℕ) : Type 0 where

@@ -2,7 +2,8 @@
 #![tactic(auto)]
 
 ghost use Rattle.std.specs.Prelude.{◌≡◌, ◌%◌, ◌<◌};
-ghost use Rattle.refusal.specs.Promise.{Tells};
+ghost use Rattle.refusal.specs.declared.Refusal.TheVariants.{ValueOver};
+ghost use Rattle.refusal.specs.Promise.{◌else◌, Checks};
 ghost use Rattle.field.specs.Field.{sum, product, Quotient};
 ghost use Rattle.field.specs.Promises.{element_numbers, Operands, Sums, Multiplies, Divides};
 ghost use Rattle.field.specs.Inside.{Products, inverse};
@@ -11,56 +12,51 @@ use refusal::Refusal;
 
 mod table;
 
-#[derive(Clone, Copy)]
-pub enum Element {
-    Value(u8),
-    Refused(Refusal),
-}
+// What nothing is divided by.
+const NOTHING: u8 = 0;
 
-// Whether both operands are elements.
-fn elements(u: u8, v: u8) -> bool
-    ensures { Tells (Operands u v) result }
+// The inverse of each element. What stands for 0, which has none, is never read, and is no element.
+const INVERSES: [u8; 64] = [
+    255, 1, 33, 62, 49, 43, 31, 44, 57, 37, 52, 28, 46, 40, 22, 25, 61, 54, 51, 39, 26, 35, 14, 24,
+    23, 15, 20, 34, 11, 53, 45, 6, 63, 2, 27, 21, 56, 9, 50, 19, 13, 47, 48, 5, 7, 30, 12, 41, 42,
+    4, 38, 18, 10, 29, 17, 60, 36, 8, 59, 58, 55, 16, 3, 32,
+];
+
+// Refuses two operands of which one is no element.
+fn elements(u: u8, v: u8) -> Result<(), Refusal>
+    ensures { Checks (Operands u v else ValueOver) result }
 {
-    if u > 63 {
-        return false;
+    if u > 63 || v > 63 {
+        return Err(Refusal::ValueOver);
     }
-    if v > 63 {
-        return false;
-    }
-    true
+    Ok(())
 }
 
 // The sum of two operands.
-pub fn sum(u: u8, v: u8) -> Element
+pub fn sum(u: u8, v: u8) -> Result<u8, Refusal>
     ensures { Sums u v (element_numbers result) }
 {
-    if !elements(u, v) {
-        return Element::Refused(Refusal::ValueOver);
-    }
-    Element::Value(plus(u, v))
+    elements(u, v)?;
+    Ok(plus(u, v))
 }
 
 // The product of two operands.
-pub fn product(u: u8, v: u8) -> Element
+pub fn product(u: u8, v: u8) -> Result<u8, Refusal>
     ensures { Multiplies u v (element_numbers result) }
 {
-    if !elements(u, v) {
-        return Element::Refused(Refusal::ValueOver);
-    }
-    Element::Value(times(u, v))
+    elements(u, v)?;
+    Ok(times(u, v))
 }
 
 // The quotient of two operands, of which the second is not 0.
-pub fn quotient(u: u8, v: u8) -> Element
+pub fn quotient(u: u8, v: u8) -> Result<u8, Refusal>
     ensures { Divides u v (element_numbers result) }
 {
-    if !elements(u, v) {
-        return Element::Refused(Refusal::ValueOver);
+    elements(u, v)?;
+    if v == NOTHING {
+        return Err(Refusal::QuotientByZero);
     }
-    if v == 0 {
-        return Element::Refused(Refusal::QuotientByZero);
-    }
-    Element::Value(over(u, v))
+    Ok(over(u, v))
 }
 
 // The sum of any two bytes.
@@ -82,82 +78,17 @@ pub fn times(u: u8, v: u8) -> u8
     ensures { result ≡ product u v }
 {
     let written = products();
-    let row = (u % 64) as usize;
-    let column = (v % 64) as usize;
+    let row = usize::from(u % 64);
+    let column = usize::from(v % 64);
     written[row][column]
 }
 
-// The inverse of what is not 0, by a table: of any byte the low six bits count. The last arm, which is no element, is never reached.
+// The inverse of what is not 0, looked up: of any byte the low six bits count.
 pub fn inverse(u: u8) -> u8
     requires { 0 < u % 64 }
     ensures { result ≡ inverse u }
 {
-    match u % 64 {
-        1 => 1,
-        2 => 33,
-        3 => 62,
-        4 => 49,
-        5 => 43,
-        6 => 31,
-        7 => 44,
-        8 => 57,
-        9 => 37,
-        10 => 52,
-        11 => 28,
-        12 => 46,
-        13 => 40,
-        14 => 22,
-        15 => 25,
-        16 => 61,
-        17 => 54,
-        18 => 51,
-        19 => 39,
-        20 => 26,
-        21 => 35,
-        22 => 14,
-        23 => 24,
-        24 => 23,
-        25 => 15,
-        26 => 20,
-        27 => 34,
-        28 => 11,
-        29 => 53,
-        30 => 45,
-        31 => 6,
-        32 => 63,
-        33 => 2,
-        34 => 27,
-        35 => 21,
-        36 => 56,
-        37 => 9,
-        38 => 50,
-        39 => 19,
-        40 => 13,
-        41 => 47,
-        42 => 48,
-        43 => 5,
-        44 => 7,
-        45 => 30,
-        46 => 12,
-        47 => 41,
-        48 => 42,
-        49 => 4,
-        50 => 38,
-        51 => 18,
-        52 => 10,
-        53 => 29,
-        54 => 17,
-        55 => 60,
-        56 => 36,
-        57 => 8,
-        58 => 59,
-        59 => 58,
-        60 => 55,
-        61 => 16,
-        62 => 3,
-        63 => 32,
-        _ => 255,
-    }
+    INVERSES[usize::from(u % 64)]
 }
 
 // The quotient of any byte by one that is not 0: of each the low six bits count.

@@ -3,6 +3,7 @@ use mathlib.Core.Path.{◌≡◌, sym, ap, ap₂, ◌∙◌}
 use mathlib.Core.List.{List, [], ◌∷◌}
 use Prim.Native.Nat.{ℕ}
 use lib.ListN.{length, get_or, drop}
+use Rattle.std.specs.Prelude.{Option}
 use Rattle.refusal.proofs.Theorems.{one_result}
 use Rattle.field.specs.Promises as Field
 use Rattle.field.proofs.Theorems.{same_sums, same_products, same_quotients}
@@ -10,7 +11,6 @@ use Rattle.encoder.specs.declared.Register.{Register}
 use Rattle.encoder.specs.Promises as Encoder
 use Rattle.encoder.proofs.Theorems as encoder
 use Rattle.encoder.proofs.Running.{one_stepping, one_asking}
-use Rattle.line.specs.declared.Wanted.{Wanted}
 use Rattle.line.specs.declared.PlainReading.{PlainReading}
 use Rattle.line.specs.Promises as Line
 use Rattle.line.proofs.Theorems.{one_within, one_plain_reading}
@@ -96,7 +96,7 @@ one_check r a b p q =
 
 -- ---- reading a line
 
-pub one_line_read : (w : List ℕ) (t : ℕ) (wanted : Wanted) (old : List ℕ) (r s : PlainReading) (x y : List ℕ)
+pub one_line_read : (w : List ℕ) (t : ℕ) (wanted : Option ℕ) (old : List ℕ) (r s : PlainReading) (x y : List ℕ)
     → Line.Reads w t wanted old (Line.plain_numbers r) x → Line.Reads w t wanted old (Line.plain_numbers s) y → (r ≡ s) × (x ≡ y)
 one_line_read = one_plain_reading
 

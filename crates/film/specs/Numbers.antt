@@ -1,5 +1,7 @@
 -- The library's answers in C's layout, as the numbers that the entry points' promises speak of, and its register as the encoder's.
-use Rattle.std.specs.Prelude.{List, [], ◌∷◌, ℕ}
+use Rattle.std.specs.Prelude.{Result, Ok, Err, List, [], ◌∷◌, ℕ}
+use Rattle.refusal.specs.declared.Refusal.{Refusal}
+use Rattle.refusal.specs.Number.{number_of}
 use Rattle.encoder.specs.declared.Register.{Register}
 use Rattle.clarity.specs.Promises.{Given}
 use Rattle.film.specs.declared.FilmElement.{FilmElement}
@@ -14,6 +16,11 @@ use Rattle.film.specs.declared.recorder.FilmRegister.{FilmRegister}
 use Rattle.film.specs.declared.recorder.FilmChecked.{FilmChecked}
 use Rattle.film.specs.declared.sheets.FilmSheet.{FilmSheet}
 use Rattle.film.specs.declared.trays.FilmCount.{FilmCount}
+
+-- the answer of a call that gives nothing else
+abbrev pub answer_of : Result Unit Refusal → ℕ
+answer_of (Ok _) = 0
+answer_of (Err r) = number_of r
 
 abbrev pub element_numbers : FilmElement → List ℕ
 element_numbers r = r.answer ∷ r.value ∷ []

@@ -3,9 +3,10 @@ ghost use Rattle.std.specs.Prelude.{◌≡◌};
 ghost use Rattle.clarity.specs.Promises as Clearly;
 ghost use Rattle.film.specs.Numbers.{scan_numbers, scan_given, clarities_numbers};
 
-use clarity::{Clarities, Clarity, Means};
+use clarity::{Clarity, Counts, Scan};
+use refusal::Refusal;
 
-// The kinds of an answer that is no refusal.
+// The kinds of an answer that is no refusal. Numbers: film.h has them as FILM_RATIO and FILM_NO_SPREAD.
 const RATIO: u8 = 0;
 
 const NO_SPREAD: u8 = 1;
@@ -31,32 +32,38 @@ pub struct FilmClarities {
     pub refusals: u8,
 }
 
-// A scan's record and answer in the library's form.
-fn scan_told(means: Means, given: Clarity) -> FilmScan
-    ensures numbers { scan_numbers result ≡ Clearly.clarity_numbers given }
-    ensures doubles { scan_given result ≡ Clearly.given_of means given }
+// The kind of a clarity, and its ratio, 0.0 where it has none.
+fn kind_told(given: Clarity) -> (u8, f64)
+    ensures { (result.0 ≡ Clearly.kind_of given) × (result.1 ≡ Clearly.ratio_of given) }
 {
     match given {
-        Clarity::Ratio(ratio) => FilmScan {
-            answer: 0,
-            kind: RATIO,
-            ratio: ratio,
-            dark: means.dark,
-            bright: means.bright,
-        },
-        Clarity::NoSpread => FilmScan {
-            answer: 0,
-            kind: NO_SPREAD,
-            ratio: 0.0,
-            dark: means.dark,
-            bright: means.bright,
-        },
-        Clarity::Refused(why) => FilmScan {
+        Clarity::Ratio(ratio) => (RATIO, ratio),
+        Clarity::NoSpread => (NO_SPREAD, 0.0),
+    }
+}
+
+// A scan's record and answer in the library's form.
+fn scan_told(given: Result<Scan, Refusal>) -> FilmScan
+    ensures numbers { scan_numbers result ≡ Clearly.clarity_numbers given }
+    ensures doubles { scan_given result ≡ Clearly.given_of given }
+{
+    match given {
+        Ok(scan) => {
+            let (kind, ratio) = kind_told(scan.clarity);
+            FilmScan {
+                answer: 0,
+                kind,
+                ratio,
+                dark: scan.means.dark,
+                bright: scan.means.bright,
+            }
+        }
+        Err(why) => FilmScan {
             answer: refusal::number(why),
             kind: 0,
             ratio: 0.0,
-            dark: means.dark,
-            bright: means.bright,
+            dark: 0.0,
+            bright: 0.0,
         },
     }
 }
@@ -65,28 +72,21 @@ fn scan_told(means: Means, given: Clarity) -> FilmScan
 pub fn film_scan_clarity(cells: &[u8], threshold: u8) -> FilmScan
     ensures { Clearly.Clarifies cells.now threshold (scan_numbers result) (scan_given result) }
 {
-    let scan = clarity::scan_clarity(cells, threshold);
-    let means = scan.means;
-    let given = scan.answer;
-    scan_told(means, given)
+    scan_told(clarity::scan_clarity(cells, threshold))
 }
 
 // A spool's answer in the library's form.
-fn counts_told(given: Clarities) -> FilmClarities
+fn counts_told(given: Result<Counts, Refusal>) -> FilmClarities
     ensures { clarities_numbers result ≡ Clearly.count_numbers given }
 {
     match given {
-        Clarities::Counted {
-            ratios,
-            unspread,
-            refusals,
-        } => FilmClarities {
+        Ok(counts) => FilmClarities {
             answer: 0,
-            ratios: ratios,
-            unspread: unspread,
-            refusals: refusals,
+            ratios: counts.ratios,
+            unspread: counts.unspread,
+            refusals: counts.refusals,
         },
-        Clarities::Refused(why) => FilmClarities {
+        Err(why) => FilmClarities {
             answer: refusal::number(why),
             ratios: 0,
             unspread: 0,

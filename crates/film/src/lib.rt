@@ -1,11 +1,10 @@
 // The library that other programs link, by the crate film_c: each function hands its call to the entry point of that name and gives back the paper's numbers; one tells the version.
 #![tactic(auto)]
 
-ghost use Rattle.std.specs.Prelude.{◌≡◌, [], ◌∷◌};
+ghost use Rattle.std.specs.Prelude.{◌≡◌, [], ◌∷◌, None, Some};
 ghost use Rattle.field.specs.Promises as Field;
 ghost use Rattle.encoder.specs.Promises as Encoder;
 ghost use Rattle.line.specs.Promises as Line;
-ghost use Rattle.line.specs.declared.Wanted.TheVariants.{Any, Number};
 ghost use Rattle.blots.specs.Promises as Blots;
 ghost use Rattle.ring.specs.Promises as Ring;
 ghost use Rattle.block.specs.Promises as Block;
@@ -14,16 +13,12 @@ ghost use Rattle.scans.specs.Promises as Scans;
 ghost use Rattle.spool.specs.Promises as Spool;
 ghost use Rattle.panel.specs.Promises as Panel;
 ghost use Rattle.film.specs.Version.{version};
-ghost use Rattle.film.specs.Numbers.{element_numbers, choice_numbers, list_numbers, ring_numbers, panel_numbers, block_numbers};
+ghost use Rattle.film.specs.Numbers.{answer_of, element_numbers, choice_numbers, list_numbers, ring_numbers, panel_numbers, block_numbers};
 
-use block::{BlockEncoding, BlockReading};
-use encoder::LineEncoding;
-use field::Element;
-use line::{PlainReading, Wanted};
-use panel::PanelText;
-use ring::{RingListing, RingReading};
+use line::PlainReading;
+use refusal::Refusal;
 use scans::Choice;
-use spool::{PLACES, SpoolAnswer};
+use spool::PLACES;
 
 pub mod brightness;
 pub mod recorder;
@@ -40,6 +35,7 @@ pub fn film_version() -> u32
     VERSION // as the header's FILM_VERSION writes it
 }
 
+// The structs hold numbers, and no Result or enum: film.h lays them out so for C.
 // The answer of an operation of the field, and its value.
 #[repr(C)]
 #[derive(Clone, Copy)]
@@ -55,6 +51,15 @@ pub struct FilmSpool {
     pub places: [PlainReading; PLACES],
     pub answer: u8,
 }
+
+// What stands at a place that has no line.
+const NO_READING: PlainReading = PlainReading {
+    answer: 0,
+    distance: 0,
+    number: 0,
+    first: 0,
+    last: 0,
+};
 
 // The answer of choosing between two scans, and the scan: 1 the first, 2 the second, 0 neither.
 #[repr(C)]
@@ -100,16 +105,23 @@ pub struct FilmBlock {
     pub distance: u8,
 }
 
+// The answer of a call that gives nothing else.
+fn answer(given: Result<(), Refusal>) -> u8
+    ensures { result ≡ answer_of given }
+{
+    match given {
+        Ok(()) => 0,
+        Err(why) => refusal::number(why),
+    }
+}
+
 // The answer of an operation of the field in the library's form.
-fn element(given: Element) -> FilmElement
+fn element(given: Result<u8, Refusal>) -> FilmElement
     ensures { element_numbers result ≡ Field.element_numbers given }
 {
     match given {
-        Element::Value(value) => FilmElement {
-            answer: 0,
-            value: value,
-        },
-        Element::Refused(why) => FilmElement {
+        Ok(value) => FilmElement { answer: 0, value },
+        Err(why) => FilmElement {
             answer: refusal::number(why),
             value: 0,
         },
@@ -141,32 +153,28 @@ pub fn film_quotient(u: u8, v: u8) -> FilmElement
 pub fn film_encode_line(text: &[u8], number: u16, out: &mut [u8]) -> u8
     ensures { Encoder.Encodes text.now number out.old (result ∷ []) out.new }
 {
-    let given = encoder::encode_line(text, number, out);
-    match given {
-        LineEncoding::Written => 0,
-        LineEncoding::Refused(why) => refusal::number(why),
-    }
+    answer(encoder::encode_line(text, number, out))
 }
 
 // Reads a line with no wanted number.
 pub fn film_read_line(word: &[u8], radius: u8, out: &mut [u8]) -> PlainReading
-    ensures { Line.Reads word.now radius Any out.old (Line.plain_numbers result) out.new }
+    ensures { Line.Reads word.now radius None out.old (Line.plain_numbers result) out.new }
 {
-    line::plain(line::read_line(word, radius, Wanted::Any, out))
+    line::plain(line::read_line(word, radius, None, out))
 }
 
 // Reads a line that must carry the wanted number.
 pub fn film_read_line_wanted(word: &[u8], radius: u8, wanted: u16, out: &mut [u8]) -> PlainReading
-    ensures { Line.Reads word.now radius (Number wanted) out.old (Line.plain_numbers result) out.new }
+    ensures { Line.Reads word.now radius (Some wanted) out.old (Line.plain_numbers result) out.new }
 {
-    line::plain(line::read_line(word, radius, Wanted::Number(wanted), out))
+    line::plain(line::read_line(word, radius, Some(wanted), out))
 }
 
 // Reads a line as 001 did, with no wanted number.
 pub fn film_read_line_paper(word: &[u8], radius: u8, out: &mut [u8]) -> PlainReading
-    ensures { Line.Reads word.now radius Any out.old (Line.plain_numbers result) out.new }
+    ensures { Line.Reads word.now radius None out.old (Line.plain_numbers result) out.new }
 {
-    line::plain(paper::read_line(word, radius, Wanted::Any, out))
+    line::plain(paper::read_line(word, radius, None, out))
 }
 
 // Reads a line that must carry the wanted number, as 001 did.
@@ -176,9 +184,9 @@ pub fn film_read_line_paper_wanted(
     wanted: u16,
     out: &mut [u8],
 ) -> PlainReading
-    ensures { Line.Reads word.now radius (Number wanted) out.old (Line.plain_numbers result) out.new }
+    ensures { Line.Reads word.now radius (Some wanted) out.old (Line.plain_numbers result) out.new }
 {
-    line::plain(paper::read_line(word, radius, Wanted::Number(wanted), out))
+    line::plain(paper::read_line(word, radius, Some(wanted), out))
 }
 
 // Reads a line with blots.
@@ -188,27 +196,16 @@ pub fn film_read_blotted(word: &[u8], map: &[u8], out: &mut [u8]) -> PlainReadin
     line::plain(blots::read_blotted(word, map, out))
 }
 
-// The number of the answer of reading a spool.
-fn spool_number(given: SpoolAnswer) -> u8
-    ensures { result ∷ [] ≡ Spool.spool_numbers given }
-{
-    match given {
-        SpoolAnswer::Read => 0,
-        SpoolAnswer::Refused(why) => refusal::number(why),
-    }
-}
-
 // Reads a spool: up to 255 lines, each by itself.
 pub fn film_read_spool(lines: &[u8], radius: u8, out: &mut [u8]) -> FilmSpool
     ensures { Spool.Spools lines.now radius out.old (result.answer ∷ []) (Spool.left_of result.places out.new) }
 {
-    let spooled = spool::read_spool(lines, radius, out);
-    let given = spooled.answer;
-    let answer = spool_number(given);
-    let places = spooled.places;
-    FilmSpool {
-        places: places,
-        answer: answer, // that of the call: each place has its own
+    match spool::read_spool(lines, radius, out) {
+        Ok(places) => FilmSpool { places, answer: 0 },
+        Err(why) => FilmSpool {
+            places: [NO_READING; PLACES],
+            answer: refusal::number(why), // that of the call: each place has its own
+        },
     }
 }
 
@@ -216,11 +213,10 @@ pub fn film_read_spool(lines: &[u8], radius: u8, out: &mut [u8]) -> FilmSpool
 pub fn film_better_scan(first: &[u8], second: &[u8], radius: u8) -> FilmChoice
     ensures { Scans.Chooses first.now second.now radius (choice_numbers result) }
 {
-    let given = scans::choose_scan(first, second, radius);
-    match given {
-        Choice::First => FilmChoice { answer: 0, scan: 1 },
-        Choice::Second => FilmChoice { answer: 0, scan: 2 },
-        Choice::Neither(why) => FilmChoice {
+    match scans::choose_scan(first, second, radius) {
+        Ok(Choice::First) => FilmChoice { answer: 0, scan: 1 },
+        Ok(Choice::Second) => FilmChoice { answer: 0, scan: 2 },
+        Err(why) => FilmChoice {
             answer: refusal::number(why),
             scan: 0,
         },
@@ -231,10 +227,9 @@ pub fn film_better_scan(first: &[u8], second: &[u8], radius: u8) -> FilmChoice
 pub fn film_list_ring(ring: &[u8], radius: u8, out: &mut [u8]) -> FilmList
     ensures { Ring.ListsRing ring.now radius out.old (list_numbers result) out.new }
 {
-    let given = ring::list_ring(ring, radius, out);
-    match given {
-        RingListing::Listed { count } => FilmList { answer: 0, count },
-        RingListing::Refused(why) => FilmList {
+    match ring::list_ring(ring, radius, out) {
+        Ok(count) => FilmList { answer: 0, count },
+        Err(why) => FilmList {
             answer: refusal::number(why),
             count: 0,
         },
@@ -245,23 +240,16 @@ pub fn film_list_ring(ring: &[u8], radius: u8, out: &mut [u8]) -> FilmList
 pub fn film_read_ring(ring: &[u8], radius: u8, out: &mut [u8]) -> FilmRing
     ensures { Ring.ReadsRing ring.now radius out.old (ring_numbers result) out.new }
 {
-    let given = ring::read_ring(ring, radius, out);
-    match given {
-        RingReading::Line {
-            start,
-            number,
-            distance,
-            first,
-            last,
-        } => FilmRing {
+    match ring::read_ring(ring, radius, out) {
+        Ok(read) => FilmRing {
             answer: 0,
-            start: start,
-            distance: distance,
-            number: number,
-            first: first,
-            last: last,
+            start: read.start,
+            distance: read.distance,
+            number: read.number,
+            first: read.first,
+            last: read.last,
         },
-        RingReading::Refused(why) => FilmRing {
+        Err(why) => FilmRing {
             answer: refusal::number(why),
             start: 0,
             distance: 0,
@@ -273,12 +261,12 @@ pub fn film_read_ring(ring: &[u8], radius: u8, out: &mut [u8]) -> FilmRing
 }
 
 // The answer of a panel's text in the library's form.
-fn panel_shown(given: PanelText) -> FilmPanel
+fn panel_shown(given: Result<u16, Refusal>) -> FilmPanel
     ensures { panel_numbers result ≡ Panel.panel_numbers given }
 {
     match given {
-        PanelText::Written { length } => FilmPanel { answer: 0, length },
-        PanelText::Refused(why) => FilmPanel {
+        Ok(length) => FilmPanel { answer: 0, length },
+        Err(why) => FilmPanel {
             answer: refusal::number(why),
             length: 0,
         },
@@ -299,26 +287,16 @@ pub fn film_panel_ring(ring: &[u8], radius: u8, out: &mut [u8]) -> FilmPanel
     panel_shown(panel::panel_ring(ring, radius, out))
 }
 
-// The answer of encoding a block, of either kind, in the library's form.
-fn block_written(given: BlockEncoding) -> u8
-    ensures { result ∷ [] ≡ Block.encoding_numbers given }
-{
-    match given {
-        BlockEncoding::Written => 0,
-        BlockEncoding::Refused(why) => refusal::number(why),
-    }
-}
-
 // The answer of reading a block, of either kind, in the library's form.
-fn block_read(given: BlockReading) -> FilmBlock
+fn block_read(given: Result<u8, Refusal>) -> FilmBlock
     ensures { block_numbers result ≡ Block.reading_numbers given }
 {
     match given {
-        BlockReading::Block { distance } => FilmBlock {
+        Ok(distance) => FilmBlock {
             answer: 0,
             distance: distance, // in bits
         },
-        BlockReading::Refused(why) => FilmBlock {
+        Err(why) => FilmBlock {
             answer: refusal::number(why),
             distance: 0,
         },
@@ -329,7 +307,7 @@ fn block_read(given: BlockReading) -> FilmBlock
 pub fn film_encode_block(given: &[u8], out: &mut [u8]) -> u8
     ensures { Block.Encodes given.now out.old (result ∷ []) out.new }
 {
-    block_written(block::encode_block(given, out))
+    answer(block::encode_block(given, out))
 }
 
 // Reads a block.
@@ -343,7 +321,7 @@ pub fn film_read_block(rows: &[u8], out: &mut [u8]) -> FilmBlock
 pub fn film_encode_smudge(given: &[u8], out: &mut [u8]) -> u8
     ensures { Smudge.Encodes given.now out.old (result ∷ []) out.new }
 {
-    block_written(smudge::encode_smudge(given, out))
+    answer(smudge::encode_smudge(given, out))
 }
 
 // Reads a block that may be smudged.

@@ -1,9 +1,10 @@
 // The recorder's register in the library: taking a character, and the checks.
-ghost use Rattle.std.specs.Prelude.{◌≡◌, [], ◌∷◌};
+ghost use Rattle.std.specs.Prelude.{[], ◌∷◌};
 ghost use Rattle.encoder.specs.Promises as Encoder;
 ghost use Rattle.film.specs.Numbers.{register_of, check_numbers};
 
-use encoder::{CheckAnswer, Register, StepAnswer};
+use super::answer;
+use encoder::Register;
 
 // The recorder's register: eleven characters, highest degree first, and how many were taken.
 #[repr(C)]
@@ -29,28 +30,16 @@ pub struct FilmChecked {
     pub answer: u8,
 }
 
-// The number of a step's answer.
-fn step_number(given: StepAnswer) -> u8
-    ensures { result ∷ [] ≡ Encoder.step_numbers given }
-{
-    match given {
-        StepAnswer::Taken => 0,
-        StepAnswer::Refused(why) => refusal::number(why),
-    }
-}
-
 // The register takes one more character.
 pub fn film_step(register: FilmRegister, c: u8) -> FilmStepped
     ensures { Encoder.Steps (register_of register) c (result.answer ∷ []) (register_of result.register) }
 {
     let held = register.held;
-    let before = Register {
-        held: held,
+    let taking = Register {
+        held,
         count: register.count,
     };
-    let stepped = before.step(c);
-    let given = stepped.answer;
-    let answer = step_number(given);
+    let stepped = taking.step(c);
     let after = stepped.register;
     let left = after.held;
     FilmStepped {
@@ -58,17 +47,7 @@ pub fn film_step(register: FilmRegister, c: u8) -> FilmStepped
             held: left,
             count: after.count,
         },
-        answer: answer,
-    }
-}
-
-// The number of the answer when checks are asked for.
-fn check_number(given: CheckAnswer) -> u8
-    ensures { result ≡ Encoder.answer_number given }
-{
-    match given {
-        CheckAnswer::Given => 0,
-        CheckAnswer::Refused(why) => refusal::number(why),
+        answer: answer(stepped.answer),
     }
 }
 
@@ -78,15 +57,14 @@ pub fn film_checks(register: FilmRegister) -> FilmChecked
 {
     let held = register.held;
     let asked = Register {
-        held: held,
+        held,
         count: register.count,
     };
-    let checked = asked.checks();
-    let given = checked.answer;
-    let answer = check_number(given);
-    let checks = checked.checks;
-    FilmChecked {
-        checks: checks,
-        answer: answer,
+    match asked.checks() {
+        Ok(checks) => FilmChecked { checks, answer: 0 },
+        Err(why) => FilmChecked {
+            checks: [0; 11],
+            answer: refusal::number(why),
+        },
     }
 }

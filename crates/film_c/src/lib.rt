@@ -1,11 +1,10 @@
 // The library that C links, over the crate film: each function is the one there of its name, with the same clauses. tools/build-library makes libfilm.a of it.
 #![tactic(auto)]
 
-ghost use Rattle.std.specs.Prelude.{◌≡◌, [], ◌∷◌};
+ghost use Rattle.std.specs.Prelude.{◌≡◌, [], ◌∷◌, None, Some};
 ghost use Rattle.field.specs.Promises as Field;
 ghost use Rattle.encoder.specs.Promises as Encoder;
 ghost use Rattle.line.specs.Promises as Line;
-ghost use Rattle.line.specs.declared.Wanted.TheVariants.{Any, Number};
 ghost use Rattle.blots.specs.Promises as Blots;
 ghost use Rattle.ring.specs.Promises as Ring;
 ghost use Rattle.block.specs.Promises as Block;
@@ -67,7 +66,7 @@ pub extern "C" fn film_encode_line(text: &[u8], number: u16, out: &mut [u8]) -> 
 // Reads a line with no wanted number.
 #[unsafe(no_mangle)]
 pub extern "C" fn film_read_line(word: &[u8], radius: u8, out: &mut [u8]) -> PlainReading
-    ensures { Line.Reads word.now radius Any out.old (Line.plain_numbers result) out.new }
+    ensures { Line.Reads word.now radius None out.old (Line.plain_numbers result) out.new }
 {
     film::film_read_line(word, radius, out)
 }
@@ -80,7 +79,7 @@ pub extern "C" fn film_read_line_wanted(
     wanted: u16,
     out: &mut [u8],
 ) -> PlainReading
-    ensures { Line.Reads word.now radius (Number wanted) out.old (Line.plain_numbers result) out.new }
+    ensures { Line.Reads word.now radius (Some wanted) out.old (Line.plain_numbers result) out.new }
 {
     film::film_read_line_wanted(word, radius, wanted, out)
 }
@@ -88,7 +87,7 @@ pub extern "C" fn film_read_line_wanted(
 // Reads a line as 001 did, with no wanted number.
 #[unsafe(no_mangle)]
 pub extern "C" fn film_read_line_paper(word: &[u8], radius: u8, out: &mut [u8]) -> PlainReading
-    ensures { Line.Reads word.now radius Any out.old (Line.plain_numbers result) out.new }
+    ensures { Line.Reads word.now radius None out.old (Line.plain_numbers result) out.new }
 {
     film::film_read_line_paper(word, radius, out)
 }
@@ -101,7 +100,7 @@ pub extern "C" fn film_read_line_paper_wanted(
     wanted: u16,
     out: &mut [u8],
 ) -> PlainReading
-    ensures { Line.Reads word.now radius (Number wanted) out.old (Line.plain_numbers result) out.new }
+    ensures { Line.Reads word.now radius (Some wanted) out.old (Line.plain_numbers result) out.new }
 {
     film::film_read_line_paper_wanted(word, radius, wanted, out)
 }

@@ -48,22 +48,20 @@ pub fn scale(p: u64, f: u8) -> u64
     let mut a = p % TEN_LANES;
     let mut b = f;
     let mut s: u64 = 0;
-    let mut i: usize = 0;
-    while i < 6 {
-        s = s ^ ((b % 2) as u64 * a);
+    for _ in 0..6u8 {
+        s ^= u64::from(b % 2) * a;
         a = doubled(a);
-        b = b / 2;
-        i += 1;
+        b /= 2;
     }
     s
 }
 
 // The product of any two bytes, of which the low six bits count, in the lowest lane. Reading multiplies so: the field's own product lays its table out
-// anew at each call.
+// anew at each call. That of places, by logarithms, has branches.
 pub fn times(u: u8, v: u8) -> u8
     ensures { result ≡ product u v }
 {
-    (scale(u as u64, v) % 64) as u8
+    (scale(u64::from(u), v) % 64) as u8
 }
 
 // Each of ten lanes times one element, as `scale`: where the lanes are a constant, both choices become tables.
@@ -102,12 +100,10 @@ pub fn products(p: u64, q: u64) -> u64
     let mut a = p % TEN_LANES;
     let mut b = q % TEN_LANES;
     let mut s: u64 = 0;
-    let mut i: usize = 0;
-    while i < 6 {
-        s = s ^ (((b & ONES) * 63) & a);
+    for _ in 0..6u8 {
+        s ^= ((b & ONES) * 63) & a;
         a = doubled(a);
         b = (b & ALL_BUT_LOWEST) / 2;
-        i += 1;
     }
     s
 }

@@ -1,3 +1,3 @@
 -- The ways out of line reading, and its theorems.
-pub mod Reading
+pub mod Ways
 pub mod Theorems

@@ -1,11 +1,11 @@
 -- The theorems of line reading: it yields the line within the radius, refuses for want of one exactly when there is none, tells where the word was changed, and allows one result.
 use mathlib.Core.Path.{◌≡◌, refl, sym, ap, ap₂, ◌∙◌, subst}
-use mathlib.Core.Bool.{Bool, true, false}
 use mathlib.Core.Logic.{⊎_elim}
 use mathlib.Core.List.{List, [], ◌∷◌}
 use Prim.Native.Nat.{ℕ, min, ◌≤◌}
 use native.Mathlib.Omega.{arith}
 use lib.ListN.{length, get_or}
+use Rattle.std.specs.Prelude.{Option, Some, None, Result, Ok, Err}
 use Rattle.numbers.proofs.Cases.{same_or_not}
 use Rattle.refusal.specs.declared.Refusal.{Refusal}
 use Rattle.refusal.specs.Number.{number_of}
@@ -18,32 +18,31 @@ use Rattle.code.proofs.Changes.{First, Last}
 use Rattle.code.proofs.Theorems.{one_line_near, first_changed_lem, last_changed_lem, unchanged, one_list_of_sums}
 use Rattle.mender.specs.declared.Mended.{Mended}
 use Rattle.mender.proofs.Theorems.{one_nearest}
-use Rattle.line.specs.declared.Wanted.{Wanted}
-use Rattle.line.specs.declared.Wanted.TheVariants as W
-use Rattle.line.specs.declared.LineReading.{LineReading}
-use Rattle.line.specs.declared.LineReading.TheVariants as R
+use Rattle.line.specs.declared.Reading.{Reading}
 use Rattle.line.specs.declared.PlainReading.{PlainReading}
 use Rattle.line.specs.Promises.{reading_numbers, plain_numbers, Within, Readable, reading_tests, told, ReadAs, Reads}
 use Rattle.line.specs.Inside.{Fit, RefusedFirst, NearestLine, ErrorSums, low_number, IsWanted, Writes, Answers}
-use Rattle.line.proofs.Reading.{wanted_or_not, refused, read}
+use Rattle.line.proofs.Ways.{wanted_or_not, refused, read}
 
 -- if a line lies within t it is the only one
 pub one_within : (t : ℕ) (w l m : List ℕ) → length w ≡ 63 → t ≤ 5 → Within t w l → Within t w m → l ≡ m
 one_within t w l m long small p q = one_line_near w l m t long small p.line q.line p.near q.near
 
+-- a reading with these numbers
+abbrev pub line_told : ℕ → ℕ → ℕ → ℕ → Result Reading Refusal
+line_told n d f g = Ok (record { number = n; distance = d; first = f; last = g })
+
 -- the numbers fix the reading, and the plain one
-pub one_line_reading : (r s : LineReading) → reading_numbers r ≡ reading_numbers s → r ≡ s
-one_line_reading (R.Line n d f t) (R.Line m e g u) q =
-    ap₂ (λ (x y : ℕ). R.Line x y f t) (ap (λ (l : List ℕ). get_or l 1 0) q) (ap (λ (l : List ℕ). get_or l 2 0) q)
-    ∙ ap₂ (λ (x y : ℕ). R.Line m e x y) (ap (λ (l : List ℕ). get_or l 3 0) q) (ap (λ (l : List ℕ). get_or l 4 0) q)
-one_line_reading (R.Line n d f t) (R.Refused s) q = absurd (refusal_positive s (sym (ap (λ (l : List ℕ). get_or l 0 0) q)))
-one_line_reading (R.Refused r) (R.Line m e g u) q = absurd (refusal_positive r (ap (λ (l : List ℕ). get_or l 0 0) q))
-one_line_reading (R.Refused r) (R.Refused s) q = ap R.Refused (one_refusal r s (ap (λ (l : List ℕ). get_or l 0 0) q))
+pub one_line_reading : (r s : Result Reading Refusal) → reading_numbers r ≡ reading_numbers s → r ≡ s
+one_line_reading (Ok r) (Ok s) q = ap (λ (l : List ℕ). line_told (get_or l 1 0) (get_or l 2 0) (get_or l 3 0) (get_or l 4 0)) q
+one_line_reading (Ok r) (Err s) q = absurd (refusal_positive s (sym (ap (λ (l : List ℕ). get_or l 0 0) q)))
+one_line_reading (Err r) (Ok s) q = absurd (refusal_positive r (ap (λ (l : List ℕ). get_or l 0 0) q))
+one_line_reading (Err r) (Err s) q = ap Err (one_refusal r s (ap (λ (l : List ℕ). get_or l 0 0) q))
 
 pub one_plain : (r s : PlainReading) → plain_numbers r ≡ plain_numbers s → r ≡ s
 one_plain r s e = ap (λ (l : List ℕ). record { answer = get_or l 0 0; distance = get_or l 2 0; number = get_or l 1 0; first = get_or l 3 0; last = get_or l 4 0 }) e
 
-module _ (w : List ℕ) (t : ℕ) (wanted : Wanted) where
+module _ (w : List ℕ) (t : ℕ) (wanted : Option ℕ) where
   one_read_as : length w ≡ 63 → t ≤ 5 → (f g x y : List ℕ) → ReadAs t w f x → ReadAs t w g y → (f ≡ g) × (x ≡ y)
   one_read_as long small f g x y p q =
       let e : x ≡ y = one_within t w x y long small p.0 q.0 in
@@ -55,7 +54,7 @@ module _ (w : List ℕ) (t : ℕ) (wanted : Wanted) where
   same_result old = one_result (reading_tests w t wanted (length old)) (ReadAs t w) 4 (λ passed. one_read_as passed.0 passed.1.1.1.0) old
 
   -- and so any two readings
-  pub one_reading : (old : List ℕ) (r s : LineReading) (x y : List ℕ) → Reads w t wanted old (reading_numbers r) x → Reads w t wanted old (reading_numbers s) y
+  pub one_reading : (old : List ℕ) (r s : Result Reading Refusal) (x y : List ℕ) → Reads w t wanted old (reading_numbers r) x → Reads w t wanted old (reading_numbers s) y
       → (r ≡ s) × (x ≡ y)
   one_reading old r s x y p q = let e = same_result old (reading_numbers r) (reading_numbers s) x y p q in (one_line_reading r s e.0, e.1)
 
@@ -65,7 +64,7 @@ module _ (w : List ℕ) (t : ℕ) (wanted : Wanted) where
   one_plain_reading old r s x y p q = let e = same_result old (plain_numbers r) (plain_numbers s) x y p q in (one_plain r s e.0, e.1)
 
   -- and so are any two answers, whatever lay in outputs of one length
-  pub same_reading : (old other : List ℕ) (r s : LineReading) (x y : List ℕ) → length old ≡ length other → Reads w t wanted old (reading_numbers r) x
+  pub same_reading : (old other : List ℕ) (r s : Result Reading Refusal) (x y : List ℕ) → length old ≡ length other → Reads w t wanted old (reading_numbers r) x
       → Reads w t wanted other (reading_numbers s) y → r ≡ s
   unfolding Reads
   same_reading old other r s x y e p q =
@@ -77,23 +76,23 @@ module _ (w : List ℕ) (t : ℕ) (wanted : Wanted) where
 
 module _ (w : List ℕ) (t : ℕ) (old : List ℕ) (long : length w ≡ 63) (room : length old ≡ 63) (characters : Characters w) (small : t ≤ 5) where
   -- reading yields the line within t, with its number, its distance, and the first and the last changed address
-  pub reads_line : (l : List ℕ) → Within t w l → Reads w t W.Any old (reading_numbers (R.Line (number l) (distance w l) (first_changed w l) (last_changed w l))) l
+  pub reads_line : (l : List ℕ) → Within t w l → Reads w t None old (reading_numbers (line_told (number l) (distance w l) (first_changed w l) (last_changed w l))) l
   reads_line l p =
-      read w t W.Any old (told w l) l
+      read w t None old (told w l) l
       (long then room then characters then small then tt then (l, p) then (l, p, tt) then tt) (p, refl)
 
   -- so where there is one, every result is that
-  pub read_within : (l : List ℕ) → Within t w l → (r : LineReading) (x : List ℕ) → Reads w t W.Any old (reading_numbers r) x
-      → (r ≡ R.Line (number l) (distance w l) (first_changed w l) (last_changed w l)) × (x ≡ l)
-  read_within l p r x q = one_reading w t W.Any old r (R.Line (number l) (distance w l) (first_changed w l) (last_changed w l)) x l q (reads_line l p)
+  pub read_within : (l : List ℕ) → Within t w l → (r : Result Reading Refusal) (x : List ℕ) → Reads w t None old (reading_numbers r) x
+      → (r ≡ line_told (number l) (distance w l) (first_changed w l) (last_changed w l)) × (x ≡ l)
+  read_within l p r x q = one_reading w t None old r (line_told (number l) (distance w l) (first_changed w l) (last_changed w l)) x l q (reads_line l p)
 
   -- and where there is none it refuses, for want of one, and only there
-  pub reads_none : (Readable t w → ⊥) → Reads w t W.Any old (6 ∷ 0 ∷ 0 ∷ 0 ∷ 0 ∷ []) old
-  reads_none none = refused w t W.Any old 5 (long then room then characters then small then tt then denied none)
+  pub reads_none : (Readable t w → ⊥) → Reads w t None old (6 ∷ 0 ∷ 0 ∷ 0 ∷ 0 ∷ []) old
+  reads_none none = refused w t None old 5 (long then room then characters then small then tt then denied none)
 
-  pub refused_none : (x : List ℕ) → Reads w t W.Any old (6 ∷ 0 ∷ 0 ∷ 0 ∷ 0 ∷ []) x → Readable t w → ⊥
+  pub refused_none : (x : List ℕ) → Reads w t None old (6 ∷ 0 ∷ 0 ∷ 0 ∷ 0 ∷ []) x → Readable t w → ⊥
   refused_none x q (l, p) =
-      let e = same_result w t W.Any old (6 ∷ 0 ∷ 0 ∷ 0 ∷ 0 ∷ []) (0 ∷ told w l) x l q (reads_line l p) in
+      let e = same_result w t None old (6 ∷ 0 ∷ 0 ∷ 0 ∷ 0 ∷ []) (0 ∷ told w l) x l q (reads_line l p) in
       let z : ◌≡◌ {A = ℕ} 6 0 = ap (λ (k : List ℕ). get_or k 0 0) e.0 in
       omega arith
 
@@ -114,7 +113,7 @@ module _ (w l : List ℕ) (n d f g : ℕ) (long : length w ≡ 63) (line : Line 
       (ap (λ (z : List ℕ). get_or z 2 0) tells ∙ u.0, ap (λ (z : List ℕ). get_or z 3 0) tells ∙ u.1)
 
 -- so in every success, for every word, every radius, every wanted number and whatever lay in the output
-module _ (w : List ℕ) (t : ℕ) (wanted : Wanted) (old : List ℕ) (n d f g : ℕ) (x : List ℕ) (reads : Reads w t wanted old (reading_numbers (R.Line n d f g)) x) where
+module _ (w : List ℕ) (t : ℕ) (wanted : Option ℕ) (old : List ℕ) (n d f g : ℕ) (x : List ℕ) (reads : Reads w t wanted old (reading_numbers (line_told n d f g)) x) where
   word_long : length w ≡ 63
   unfolding Reads
   word_long = (passed (reading_tests w t wanted (length old)) 0 reads.0 refl).0
@@ -133,7 +132,7 @@ module _ (w : List ℕ) (t : ℕ) (wanted : Wanted) (old : List ℕ) (n d f g : 
   read_unchanged = told_unchanged w x n d f g word_long line_read.0.line line_read.1
 
 -- any two answers of looking for the nearest line are equal
-pub one_nearest_line : (w : List ℕ) (t : ℕ) (m n : Mended) → NearestLine w t m → NearestLine w t n → m ≡ n
+pub one_nearest_line : (w : List ℕ) (t : ℕ) (m n : Option Mended) → NearestLine w t m → NearestLine w t n → m ≡ n
 one_nearest_line w t m n =
     one_nearest Line w (min t 5) m n (λ y u v f g a b. one_line_near w u v (min t 5) y.long (omega arith) f g a b)
 
@@ -148,20 +147,17 @@ pub one_written : (line old x y : List ℕ) → Writes line old x → Writes lin
 one_written line old x y p q = ⊎_elim (λ e. p.over e ∙ sym (q.over e)) (λ d. p.beside d ∙ sym (q.beside d)) (same_or_not (length old) 63)
 
 -- where a test before reading fails, any two refusals that are told are equal
-pub one_first_refusal : (w : List ℕ) (t : ℕ) (wanted : Wanted) (room : ℕ) (r s : Refusal) → (Fit w t wanted room → ⊥) → RefusedFirst w t wanted room r → RefusedFirst w t wanted room s
+pub one_first_refusal : (w : List ℕ) (t : ℕ) (wanted : Option ℕ) (room : ℕ) (r s : Refusal) → (Fit w t wanted room → ⊥) → RefusedFirst w t wanted room r → RefusedFirst w t wanted room s
     → r ≡ s
 one_first_refusal w t wanted room r s d p q =
     one_refusal r s (one_answer (reading_tests w t wanted room) (number_of r) (number_of s) (p.answer d) (q.answer d))
 
 -- and any two answers for a line that was found or not
-pub one_answered : (m : Mended) (wanted : Wanted) (old f g x y : List ℕ) → Answers m wanted old f x → Answers m wanted old g y → (f ≡ g) × (x ≡ y)
-one_answered m wanted old f g x y p q = pick m.found refl
-  where
-    pick : (b : Bool) → m.found ≡ b → (f ≡ g) × (x ≡ y)
-    pick false e = ((p.none e).0 ∙ sym (q.none e).0, (p.none e).1 ∙ sym (q.none e).1)
-    pick true e =
-        ⊎_elim
-        (λ (i : IsWanted wanted (low_number m.word)).
-        ((p.line e i).0 ∙ sym (q.line e i).0, one_written m.word old x y (p.line e i).1 (q.line e i).1))
-        (λ (d : IsWanted wanted (low_number m.word) → ⊥). ((p.other e d).0 ∙ sym (q.other e d).0, (p.other e d).1 ∙ sym (q.other e d).1))
-        (wanted_or_not wanted (low_number m.word))
+pub one_answered : (m : Option Mended) (wanted : Option ℕ) (old f g x y : List ℕ) → Answers m wanted old f x → Answers m wanted old g y → (f ≡ g) × (x ≡ y)
+one_answered None wanted old f g x y p q = (p.none.0 ∙ sym q.none.0, p.none.1 ∙ sym q.none.1)
+one_answered (Some m) wanted old f g x y p q =
+    ⊎_elim
+    (λ (i : IsWanted wanted (low_number m.word)).
+    ((p.line i).0 ∙ sym (q.line i).0, one_written m.word old x y (p.line i).1 (q.line i).1))
+    (λ (d : IsWanted wanted (low_number m.word) → ⊥). ((p.other d).0 ∙ sym (q.other d).0, (p.other d).1 ∙ sym (q.other d).1))
+    (wanted_or_not wanted (low_number m.word))

@@ -11,23 +11,13 @@ use mender::{Mended, NOWHERE};
 use refusal::Refusal;
 use sums::Sums;
 
-// The number that the line must carry, or none.
+// What is told of a line that was read: its number, its distance, and the first and the last changed address.
 #[derive(Clone, Copy)]
-pub enum Wanted {
-    Any,
-    Number(u16),
-}
-
-// The line's number, its distance, and the first and the last changed address; or why there is none.
-#[derive(Clone, Copy)]
-pub enum LineReading {
-    Line {
-        number: u16,
-        distance: u8,
-        first: u8,
-        last: u8,
-    },
-    Refused(Refusal),
+pub struct Reading {
+    pub number: u16,
+    pub distance: u8,
+    pub first: u8,
+    pub last: u8,
 }
 
 // A reading in plain numbers, as C and the places of a spool hold it. In a refusal all but the answer are 0.
@@ -42,33 +32,38 @@ pub struct PlainReading {
 }
 
 // Reads a line: writes the line within the radius of the word. Nearly all words are lines themselves, and are copied at once.
-pub fn read_line(word: &[u8], radius: u8, wanted: Wanted, output: &mut [u8]) -> LineReading
+pub fn read_line(
+    word: &[u8],
+    radius: u8,
+    wanted: Option<u16>,
+    output: &mut [u8],
+) -> Result<Reading, Refusal>
     ensures { Reads word.now radius wanted output.old (reading_numbers result) output.new }
 {
     if !fits(word, output.len(), radius, wanted) {
-        return LineReading::Refused(first_refusal(word, output.len(), radius, wanted));
+        return Err(first_refusal(word, output.len(), radius, wanted));
     }
     let errors = error_sums(word);
     if mender::all_zero(errors) {
         let own = number_of(word);
         if !is_wanted(wanted, own) {
-            return LineReading::Refused(Refusal::OtherNumber);
+            return Err(Refusal::OtherNumber);
         }
         put_word(word, output);
-        return LineReading::Line {
+        return Ok(Reading {
             number: own,
             distance: 0,
             first: NOWHERE,
             last: NOWHERE,
-        };
+        });
     }
     // A part, and so a slice of its own: else the compiler copies the word's pointer and length before all tests, and these wait for it.
-    let found = mender::without_errors(&word[..63], errors, radius as usize);
+    let found = mender::without_errors(&word[..63], errors, usize::from(radius));
     answered(found, wanted, output)
 }
 
 // Whether the tests before reading hold.
-pub fn fits(word: &[u8], room: usize, radius: u8, wanted: Wanted) -> bool
+pub fn fits(word: &[u8], room: usize, radius: u8, wanted: Option<u16>) -> bool
     ensures { Tells (Fit word.now radius wanted room) result }
 {
     if word.len() != 63 {
@@ -87,7 +82,7 @@ pub fn fits(word: &[u8], room: usize, radius: u8, wanted: Wanted) -> bool
 }
 
 // The refusal of the first of them that does not hold, where one does not. Told apart from whether they hold, so that a line is read without it.
-pub fn first_refusal(word: &[u8], room: usize, radius: u8, wanted: Wanted) -> Refusal
+pub fn first_refusal(word: &[u8], room: usize, radius: u8, wanted: Option<u16>) -> Refusal
     ensures { RefusedFirst word.now radius wanted room result }
 {
     if word.len() != 63 {
@@ -106,44 +101,41 @@ pub fn first_refusal(word: &[u8], room: usize, radius: u8, wanted: Wanted) -> Re
 }
 
 // The answer where a line was found or none was: it has to carry the wanted number, and is written.
-pub fn answered(found: Mended, wanted: Wanted, output: &mut [u8]) -> LineReading
+pub fn answered(
+    found: Option<Mended>,
+    wanted: Option<u16>,
+    output: &mut [u8],
+) -> Result<Reading, Refusal>
     ensures { Answers found wanted output.old (reading_numbers result) output.new }
 {
-    if !found.found {
-        return LineReading::Refused(Refusal::NoLine);
-    }
+    let found = found.ok_or(Refusal::NoLine)?;
     let line = found.word;
     let number = number_of(&line);
     if !is_wanted(wanted, number) {
-        return LineReading::Refused(Refusal::OtherNumber);
+        return Err(Refusal::OtherNumber);
     }
     put(line, output);
-    LineReading::Line {
+    Ok(Reading {
         number: number,
         distance: found.weight,
         first: found.first,
         last: found.last,
-    }
+    })
 }
 
 // A reading in plain numbers.
-pub fn plain(reading: LineReading) -> PlainReading
+pub fn plain(reading: Result<Reading, Refusal>) -> PlainReading
     ensures { plain_numbers result ≡ reading_numbers reading }
 {
     match reading {
-        LineReading::Line {
-            number,
-            distance,
-            first,
-            last,
-        } => PlainReading {
+        Ok(line) => PlainReading {
             answer: 0,
-            distance: distance,
-            number: number, // at an even place: no padding stands before it
-            first: first,
-            last: last,
+            distance: line.distance,
+            number: line.number, // at an even place: no padding stands before it
+            first: line.first,
+            last: line.last,
         },
-        LineReading::Refused(why) => PlainReading {
+        Err(why) => PlainReading {
             answer: refusal::number(why),
             distance: 0,
             number: 0,
@@ -161,10 +153,10 @@ pub fn error_sums(word: &[u8]) -> Sums
 }
 
 // The line within the radius of a word: the radius counts up to 5. A line's power sums are those of the marks.
-pub fn nearest_line(word: &[u8], radius: u8) -> Mended
+pub fn nearest_line(word: &[u8], radius: u8) -> Option<Mended>
     ensures { NearestLine word.now radius result }
 {
-    mender::nearest(word, code::mark_sums(), radius as usize)
+    mender::nearest(word, code::mark_sums(), usize::from(radius))
 }
 
 // The number that a line carries: of each of its two characters the low six bits count.
@@ -173,7 +165,7 @@ pub fn number_of(line: &[u8]) -> u16
 {
     let high = eights::byte_at(line, 50);
     let low = eights::byte_at(line, 51);
-    (high % 64) as u16 * 64 + (low % 64) as u16
+    u16::from(high % 64) * 64 + u16::from(low % 64)
 }
 
 // Writes a line over an output of its length, and over no other.
@@ -197,21 +189,15 @@ fn put_word(word: &[u8], output: &mut [u8])
 }
 
 // Whether the number wanted can be that of a line.
-fn possible(wanted: Wanted) -> bool
+fn possible(wanted: Option<u16>) -> bool
     ensures { Tells (Possible wanted) result }
 {
-    match wanted {
-        Wanted::Any => true,
-        Wanted::Number(n) => n <= 4095,
-    }
+    wanted.is_none_or(|n| n <= 4095)
 }
 
 // Whether a number is the one wanted.
-fn is_wanted(wanted: Wanted, number: u16) -> bool
+fn is_wanted(wanted: Option<u16>, number: u16) -> bool
     ensures { Tells (IsWanted wanted number) result }
 {
-    match wanted {
-        Wanted::Any => true,
-        Wanted::Number(n) => n == number,
-    }
+    wanted.is_none_or(|n| n == number)
 }

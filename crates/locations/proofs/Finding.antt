@@ -1,13 +1,14 @@
 -- The ways in which roots are found, or told to be none.
 use mathlib.Core.Path.{◌≡◌, refl, sym, ap, ap₂, ◌∙◌, subst}
-use mathlib.Core.Bool.{true, true≢false}
 use mathlib.Core.List.{List, [], ◌∷◌}
 use Prim.Native.Nat.{ℕ, zero, suc, ◌-◌, ◌%◌, ◌<◌, ◌≤◌}
 use native.Mathlib.Nat.{mod-eq_of_lt}
 use native.Mathlib.Omega.{arith}
-use lib.ListN.{length, get_or, set, drop, length-set, get_or-eq_default, drop_of_length-le}
+use lib.ListN.{length, get_or, set, drop, length-set}
 use lib.Seq.{drop-cons, get_or-set_same, drop-set-lt}
 use lib.Bits.{bit_xor}
+use Rattle.std.specs.Prelude.{Some, None}
+use Rattle.std.proofs.lemmas.Option.{none-some, same_Some}
 use Rattle.numbers.proofs.Cases.{pos_of_not_zero}
 use Rattle.field.specs.Field.{sum, product}
 use Rattle.field.specs.Inside.{inverse}
@@ -16,14 +17,22 @@ use Rattle.polynomial.specs.Polynomial.{poly_at, over}
 use Rattle.polynomial.specs.Roots.{Monic, Split}
 use Rattle.polynomial.proofs.Division.{over_get, tail_value}
 use Rattle.polynomial.proofs.Splitting.{divided_monic, split_back, others_split, simple}
-use Rattle.locations.specs.declared.Locations.{Locations}
 use Rattle.locations.specs.declared.Division.{Division}
-use Rattle.locations.specs.Roots.{Finds, Nowhere, Divides, Tried, halves}
+use Rattle.locations.specs.Roots.{Finds, Divides, Root, Tried, halves}
 use Rattle.locations.proofs.Halving.{half_is, quadratic, linear_pos, constant_pos, quotient_small, half_root, other_root, at_zero, other_apart}
 
--- told to be none where there are none
-none_told : (p : List ℕ) (d : ℕ) (r : Locations) → Nowhere r → ((rs : List ℕ) → Split p d rs → ⊥) → Finds p d r
-none_told p d r n never = record { long = n.long; split = λ f. absurd (true≢false (sym f ∙ n.not_found)); none = λ _. never }
+-- ---- what is found, and what is told to be none
+
+found_told : (p : List ℕ) (d : ℕ) (rs : List ℕ) → length rs ≡ 5 → (Monic p d → Split p d (drop (5 - d) rs)) → Finds p d (Some rs)
+found_told p d rs long split =
+    record {
+      long = λ r e. subst (λ (r : List ℕ). length r ≡ 5) (same_Some rs r e) long;
+      split = λ r e m. subst (λ (r : List ℕ). Split p d (drop (5 - d) r)) (same_Some rs r e) (split m);
+      none = λ e. absurd (none-some rs (sym e));
+    }
+
+none_told : (p : List ℕ) (d : ℕ) → ((rs : List ℕ) → Split p d rs → ⊥) → Finds p d None
+none_told p d never = record { long = λ r e. absurd (none-some r e); split = λ r e. absurd (none-some r e); none = λ _. never }
 
 -- ---- the value where the degree is one or two, of each coefficient the low six bits
 
@@ -47,8 +56,8 @@ quadratic_value p x h m =
 
 -- ---- degree one
 
-pub linear_none : (p : List ℕ) (r : Locations) → get_or p 0 0 % 64 ≡ 0 → Nowhere r → Finds p 1 r
-linear_none p r e n = none_told p 1 r n never
+pub linear_none : (p : List ℕ) → get_or p 0 0 % 64 ≡ 0 → Finds p 1 None
+linear_none p e = none_told p 1 never
   where
     never : (rs : List ℕ) → Split p 1 rs → ⊥
     never [] s = let m = s.many in omega arith
@@ -57,21 +66,19 @@ linear_none p r e n = none_told p 1 r n never
         let pos = s.places.0 in
         omega arith
 
-pub linear_found : (p : List ℕ) → (get_or p 0 0 % 64 ≡ 0 → ⊥) → Finds p 1 (record { found = true; roots = 0 ∷ 0 ∷ 0 ∷ 0 ∷ get_or p 0 0 % 64 ∷ [] })
-linear_found p d =
-    let c : ℕ = get_or p 0 0 % 64 in
-    let small : get_or p 0 0 % 64 < 64 = omega arith in
-    record {
-      long = refl;
-      split = λ _ m.
-          record {
-            monic = m;
-            places = (pos_of_not_zero c d, small, tt, tt);
-            many = refl;
-            zeros = (linear_value p c small m ∙ Laws.sum_self c, tt);
-          };
-      none = λ f. absurd (true≢false f);
-    }
+pub linear_found : (p : List ℕ) → (get_or p 0 0 % 64 ≡ 0 → ⊥) → Finds p 1 (Some (0 ∷ 0 ∷ 0 ∷ 0 ∷ get_or p 0 0 % 64 ∷ []))
+linear_found p d = found_told p 1 (0 ∷ 0 ∷ 0 ∷ 0 ∷ get_or p 0 0 % 64 ∷ []) refl split
+  where
+    split : Monic p 1 → Split p 1 (get_or p 0 0 % 64 ∷ [])
+    split m =
+        let c : ℕ = get_or p 0 0 % 64 in
+        let small : c < 64 = omega arith in
+        record {
+          monic = m;
+          places = (pos_of_not_zero c d, small, tt, tt);
+          many = refl;
+          zeros = (linear_value p c small m ∙ Laws.sum_self c, tt);
+        }
 
 -- ---- degree two
 
@@ -101,8 +108,8 @@ two_roots p (x ∷ y ∷ rs) s = (
   },
 )
 
-pub double_root : (p : List ℕ) (r : Locations) → get_or p 1 0 % 64 ≡ 0 → Nowhere r → Finds p 2 r
-double_root p r e n = none_told p 2 r n never
+pub double_root : (p : List ℕ) → get_or p 1 0 % 64 ≡ 0 → Finds p 2 None
+double_root p e = none_told p 2 never
   where
     never : (rs : List ℕ) → Split p 2 rs → ⊥
     never rs s =
@@ -110,8 +117,8 @@ double_root p r e n = none_told p 2 r n never
         let pos = linear_pos (get_or p 1 0 % 64) (get_or p 0 0 % 64) x y (omega arith) t.x_lt t.y_lt t.apart t.x_root t.y_root in
         omega arith
 
-pub root_zero : (p : List ℕ) (r : Locations) → get_or p 0 0 % 64 ≡ 0 → Nowhere r → Finds p 2 r
-root_zero p r e n = none_told p 2 r n never
+pub root_zero : (p : List ℕ) → get_or p 0 0 % 64 ≡ 0 → Finds p 2 None
+root_zero p e = none_told p 2 never
   where
     never : (rs : List ℕ) → Split p 2 rs → ⊥
     never rs s =
@@ -125,9 +132,9 @@ root_zero p r e n = none_told p 2 r n never
 quotient_is : (b c v u : ℕ) → v ≡ product c (inverse b) → u ≡ product v (inverse b) → u ≡ product (product c (inverse b)) (inverse b)
 quotient_is b c v u ev eu = eu ∙ ap (λ (z : ℕ). product z (inverse b)) ev
 
-pub no_half : (p : List ℕ) (v u : ℕ) (r : Locations) → (get_or p 1 0 % 64 ≡ 0 → ⊥) → v ≡ product (get_or p 0 0 % 64) (inverse (get_or p 1 0 % 64))
-    → u ≡ product v (inverse (get_or p 1 0 % 64)) → 32 ≤ u → Nowhere r → Finds p 2 r
-no_half p v u r d ev eu h n = none_told p 2 r n never
+pub no_half : (p : List ℕ) (v u : ℕ) → (get_or p 1 0 % 64 ≡ 0 → ⊥) → v ≡ product (get_or p 0 0 % 64) (inverse (get_or p 1 0 % 64))
+    → u ≡ product v (inverse (get_or p 1 0 % 64)) → 32 ≤ u → Finds p 2 None
+no_half p v u d ev eu h = none_told p 2 never
   where
     never : (rs : List ℕ) → Split p 2 rs → ⊥
     never rs s =
@@ -143,10 +150,9 @@ pub ruleset none_of_two = (double_root, root_zero, no_half)
 
 pub two_found : (p : List ℕ) (v u y x : ℕ) → (get_or p 1 0 % 64 ≡ 0 → ⊥) → (get_or p 0 0 % 64 ≡ 0 → ⊥)
     → v ≡ product (get_or p 0 0 % 64) (inverse (get_or p 1 0 % 64)) → u ≡ product v (inverse (get_or p 1 0 % 64)) → u < 32 → y ≡ get_or halves u 0
-    → x ≡ product (get_or p 1 0 % 64) y → Finds p 2 (record { found = true; roots = 0 ∷ 0 ∷ 0 ∷ x ∷ bit_xor x (get_or p 1 0 % 64) ∷ [] })
+    → x ≡ product (get_or p 1 0 % 64) y → Finds p 2 (Some (0 ∷ 0 ∷ 0 ∷ x ∷ bit_xor x (get_or p 1 0 % 64) ∷ []))
 unfolding sum
-two_found p v u y x db dc ev eu small ey ex =
-    record { long = refl; split = λ _ m. two m; none = λ f. absurd (true≢false f) }
+two_found p v u y x db dc ev eu small ey ex = found_told p 2 (0 ∷ 0 ∷ 0 ∷ x ∷ sum x b ∷ []) refl two
   where
     b : ℕ
     b = get_or p 1 0 % 64
@@ -184,74 +190,54 @@ two_found p v u y x db dc ev eu small ey ex =
 
 -- ---- any degree
 
-pub of_degree : (p : List ℕ) (d n : ℕ) (r : Locations) → d ≡ n → Finds p n r → Finds p d r
-of_degree p d n r e f = subst (λ (k : ℕ). Finds p k r) (sym e) f
-
--- six coefficients are of no higher degree than five
-pub over_five : (p : List ℕ) (d : ℕ) (r : Locations) → length p ≡ 6 → 5 < d → Nowhere r → Finds p d r
-over_five p d r l h n =
-    none_told p d r n
-    (λ rs s. let z : get_or p d 0 ≡ 0 = get_or-eq_default p 0 (omega arith) in let t = s.monic.top in omega arith)
-
-pub none_sought : (p : List ℕ) (d : ℕ) (r : Locations) → d ≡ 0 → length r.roots ≡ 5 → r.found ≡ true → Finds p d r
-none_sought p d r e l f =
-    record {
-      long = l;
-      split = λ _ m. subst (λ (n : ℕ). Split p n (drop (5 - n) r.roots)) (sym e) (zero-split (subst (Monic p) e m));
-      none = λ g. absurd (true≢false (sym f ∙ g));
-    }
-  where
-    zero-split : Monic p 0 → Split p 0 (drop 5 r.roots)
-    zero-split m =
-        subst (Split p 0) (sym (drop_of_length-le r.roots {i = 5} (omega arith))) record { monic = m; places = tt; many = refl; zeros = tt }
-
-pub no_root : (p : List ℕ) (d x : ℕ) (r : Locations) → (d ≡ 0 → ⊥) → Tried p x → x ≡ 0 → Nowhere r → Finds p d r
-no_root p d x r h a e n = none_told p d r n never
+pub no_root : (p : List ℕ) (d : ℕ) → (d ≡ 0 → ⊥) → Tried p None → Finds p d None
+no_root p d h t = none_told p d never
   where
     never : (rs : List ℕ) → Split p d rs → ⊥
     never [] s = h (sym s.many)
-    never (y ∷ rs) s = a.none e y s.places.0 s.places.1 s.zeros.0
+    never (y ∷ rs) s = t.none refl y (record { pos = s.places.0; small = s.places.1; zero = s.zeros.0 })
 
 -- ---- a root divided out
 
-pub root_twice : (p : List ℕ) (d x : ℕ) (once twice : Division) (r : Locations) → (d ≡ 0 → ⊥) → Tried p x → (x ≡ 0 → ⊥) → Divides p x once
-    → Divides once.quotient x twice → twice.remainder ≡ 0 → Nowhere r → Finds p d r
-root_twice p zero x once twice r h a e o t z n = absurd (h refl)
-root_twice p (suc k) x once twice r h a e o t z n =
-    let pos : 0 < x = pos_of_not_zero x e in
-    none_told p (suc k) r n
+pub root_twice : (p : List ℕ) (d x : ℕ) (once twice : Division) → (d ≡ 0 → ⊥) → Tried p (Some x) → Divides p x once → Divides once.quotient x twice
+    → twice.remainder ≡ 0 → Finds p d None
+root_twice p zero x once twice h t o w z = absurd (h refl)
+root_twice p (suc k) x once twice h t o w z =
+    let a = t.found x refl in
+    none_told p (suc k)
+    (λ rs s. simple p k x s.monic a.pos a.small a.zero rs s (ap (λ (q : List ℕ). poly_at q x) (sym o.quotient) ∙ sym w.remainder ∙ z))
+
+less : (n : ℕ) → suc n - 1 ≡ n
+less n = omega arith
+
+pub rest_none : (p : List ℕ) (d x : ℕ) (once : Division) → (d ≡ 0 → ⊥) → Tried p (Some x) → Divides p x once → Finds once.quotient (d - 1) None
+    → Finds p d None
+rest_none p zero x once h t o f = absurd (h refl)
+rest_none p (suc n) x once h t o f =
+    let a = t.found x refl in
+    none_told p (suc n)
     (λ rs s.
-    simple p k x s.monic pos a.small (a.root pos) rs s (ap (λ (q : List ℕ). poly_at q x) (sym o.quotient) ∙ sym t.remainder ∙ z))
+    let others = others_split p n x s.monic a.pos a.small a.zero rs s in
+    f.none refl others.0
+    (subst (λ (k : ℕ). Split once.quotient k others.0) (sym (less n)) (subst (λ (q : List ℕ). Split q n others.0) (sym o.quotient) others.1)))
 
--- each way to none of any degree
-pub ruleset none_of_any = (over_five, no_root, root_twice)
-
-pub one_more : (p : List ℕ) (d x : ℕ) (once twice : Division) (r : Locations) → (d ≡ 0 → ⊥) → d ≤ 5 → Tried p x → (x ≡ 0 → ⊥) → Divides p x once
-    → Divides once.quotient x twice → (twice.remainder ≡ 0 → ⊥) → Finds once.quotient (d - 1) r
-    → Finds p d (record { found = r.found; roots = set r.roots (5 - d) x })
-one_more p zero x once twice r h b a e o t z f = absurd (h refl)
-one_more p (suc n) x once twice r h b a e o t z f =
-    record {
-      long = length-set r.roots (5 - suc n) x ∙ f.long;
-      split = λ found m.
-          subst (Split p (suc n)) (sym (list r.roots n b f.long))
-          (split_back p n x m pos a.small (a.root pos) (drop (5 - n) r.roots) not-again (rest.split found (divided_monic p n x m)));
-      none = λ missing rs s.
-          let others = others_split p n x s.monic pos a.small (a.root pos) rs s in
-          rest.none missing others.0 others.1;
-    }
+pub one_more : (p : List ℕ) (d x : ℕ) (once twice : Division) (rs : List ℕ) → (d ≡ 0 → ⊥) → d ≤ 5 → Tried p (Some x) → Divides p x once
+    → Divides once.quotient x twice → (twice.remainder ≡ 0 → ⊥) → Finds once.quotient (d - 1) (Some rs) → Finds p d (Some (set rs (5 - d) x))
+one_more p zero x once twice rs h b t o w z f = absurd (h refl)
+one_more p (suc n) x once twice rs h b t o w z f =
+    found_told p (suc n) (set rs (5 - suc n) x) (length-set rs (5 - suc n) x ∙ f.long rs refl)
+    (λ m.
+    subst (Split p (suc n)) (sym (list rs n b (f.long rs refl)))
+    (split_back p n x m a.pos a.small a.zero (drop (5 - n) rs) not-again (rest.split rs refl (divided_monic p n x m))))
   where
-    pos : 0 < x
-    pos = pos_of_not_zero x e
+    a : Root p x
+    a = t.found x refl
 
-    less : (n : ℕ) → suc n - 1 ≡ n
-    less n = omega arith
-
-    rest : Finds (over p x) n r
-    rest = subst (λ (k : ℕ). Finds (over p x) k r) (less n) (subst (λ (q : List ℕ). Finds q (suc n - 1) r) o.quotient f)
+    rest : Finds (over p x) n (Some rs)
+    rest = subst (λ (k : ℕ). Finds (over p x) k (Some rs)) (less n) (subst (λ (q : List ℕ). Finds q (suc n - 1) (Some rs)) o.quotient f)
 
     not-again : poly_at (over p x) x ≡ 0 → ⊥
-    not-again q = z (t.remainder ∙ ap (λ (l : List ℕ). poly_at l x) o.quotient ∙ q)
+    not-again q = z (w.remainder ∙ ap (λ (l : List ℕ). poly_at l x) o.quotient ∙ q)
 
     -- x stands before the rest
     list : (l : List ℕ) (n : ℕ) → suc n ≤ 5 → length l ≡ 5 → drop (5 - suc n) (set l (5 - suc n) x) ≡ x ∷ drop (5 - n) l

@@ -2,18 +2,19 @@
 use mathlib.Core.Path.{◌≡◌, sym, ap, ◌∙◌, subst}
 use mathlib.Core.Logic.{⊎_elim}
 use mathlib.Core.List.{List}
-use Prim.Native.Nat.{ℕ, zero, suc, ◌+◌, ◌-◌, ◌<◌, ◌≤◌}
+use Prim.Native.Nat.{ℕ, zero, suc, ◌-◌, ◌<◌, ◌≤◌}
 use native.Mathlib.Nat.{eq-or-lt_of_le}
 use native.Mathlib.Omega.{arith}
-use borrow.Author.Count.{below_more}
 use lib.ListN.{get_or, length, set, drop, length-set, get_or-eq_default}
 use lib.Seq.{get_or-set_same, get_or-set_other, ext_get_or}
 use lib.Bits.{bit_xor}
+use Rattle.std.specs.Prelude.{Option, Some, None, MatchOption}
+use Rattle.std.proofs.lemmas.Option.{none-some, same_Some}
 use Rattle.field.specs.Field.{sum, product}
 use Rattle.polynomial.specs.Polynomial.{poly_at, over}
 use Rattle.polynomial.proofs.Division.{over_get, length_over, tail_value, poly_past}
 use Rattle.locations.specs.declared.Division.{Division}
-use Rattle.locations.specs.Roots.{Divides, Tried}
+use Rattle.locations.specs.Roots.{Divides, Root, Tried}
 
 -- ---- divided
 
@@ -77,18 +78,15 @@ divided_all p r q v k h d =
 
 -- ---- trial
 
--- no element below x but 0 is a root
-abbrev pub Missed : List ℕ → ℕ → Type 0
-Missed p x = (y : ℕ) → 0 < y → y < x → poly_at p y ≡ 0 → ⊥
+pub root_told : (p : List ℕ) (x : ℕ) (d : Division) → Divides p x d → d.remainder ≡ 0 → poly_at p x ≡ 0
+root_told p x d h z = sym h.remainder ∙ z
 
-pub missed_none : (p : List ℕ) → Missed p 1
-missed_none p y a b z = omega arith
+pub root_denied : (p : List ℕ) (x : ℕ) (d : Division) → Divides p x d → (d.remainder ≡ 0 → ⊥) → poly_at p x ≡ 0 → ⊥
+root_denied p x d h n z = n (h.remainder ∙ z)
 
-pub missed_more : (p : List ℕ) (x : ℕ) (d : Division) → Divides p x d → (d.remainder ≡ 0 → ⊥) → Missed p x → Missed p (x + 1)
-missed_more p x d e n m y a b = below_more (λ (y : ℕ). 0 < y → poly_at p y ≡ 0 → ⊥) x (λ y l g. m y g l) (λ _ z. n (e.remainder ∙ z)) y b a
-
-pub tried_here : (p : List ℕ) (x : ℕ) (d : Division) → x < 64 → 0 < x → Divides p x d → d.remainder ≡ 0 → Tried p x
-tried_here p x d b a e z = record { small = b; root = λ _. sym e.remainder ∙ z; none = λ q. absurd (omega arith) }
-
-pub tried_none : (p : List ℕ) (x : ℕ) → 64 ≤ x → Missed p x → Tried p 0
-tried_none p x h m = record { small = omega arith; root = λ q. absurd (omega arith); none = λ _ y a b. m y a (omega arith) }
+pub tried_all : (p : List ℕ) (r : Option ℕ)
+    → MatchOption r ((k : ℕ) → 1 ≤ k → k < 64 → poly_at p k ≡ 0 → ⊥)
+    (λ x. (1 ≤ x) × (x < 64) × (poly_at p x ≡ 0) × ((k : ℕ) → 1 ≤ k → k < x → poly_at p k ≡ 0 → ⊥)) → Tried p r
+tried_all p (Some x) h =
+    record { found = λ y e. subst (Root p) (same_Some x y e) (record { pos = h.0; small = h.1; zero = h.2 }); none = λ e. absurd (none-some x (sym e)) }
+tried_all p None h = record { found = λ y e. absurd (none-some y e); none = λ _ x r. h x r.pos r.small r.zero }

@@ -1,25 +1,27 @@
 -- What the search for roots comes to: they are found exactly where there are as many as the degree, and then there is no other.
-use mathlib.Core.Path.{◌≡◌}
-use mathlib.Core.Bool.{true}
+use mathlib.Core.Path.{◌≡◌, refl}
 use mathlib.Core.List.{List, ◌∷◌}
 use Prim.Native.Nat.{ℕ, ◌-◌, ◌<◌}
 use native.Mathlib.Omega.{arith}
 use lib.ListN.{drop}
-use Rattle.numbers.proofs.Cases.{true_of_not_false}
+use Rattle.std.specs.Prelude.{Option, Some, None}
 use Rattle.polynomial.specs.Sums.{Fresh}
 use Rattle.polynomial.specs.Polynomial.{poly_at}
 use Rattle.polynomial.specs.Roots.{Monic, Split}
 use Rattle.polynomial.proofs.Splitting.{too_many}
-use Rattle.locations.specs.declared.Locations.{Locations}
 use Rattle.locations.specs.Roots.{Finds}
 
-module _ (p : List ℕ) (d : ℕ) (r : Locations) (finds : Finds p d r) (monic : Monic p d) where
-  -- found is true exactly where p has d roots, none of them 0 and no two the same
-  pub found_exactly : (r.found ≡ true → (rs : List ℕ) × Split p d rs) × ((rs : List ℕ) → Split p d rs → r.found ≡ true)
-  found_exactly = ((λ f. (drop (5 - d) r.roots, finds.split f monic)), (λ rs s. true_of_not_false r.found (λ f. finds.none f rs s)))
+module _ (p : List ℕ) (d : ℕ) (r : Option (List ℕ)) (finds : Finds p d r) (monic : Monic p d) where
+  -- roots are found exactly where p has d roots, none of them 0 and no two the same
+  pub found_exactly : ((found : List ℕ) → r ≡ Some found → (rs : List ℕ) × Split p d rs) × ((rs : List ℕ) → Split p d rs → (found : List ℕ) × (r ≡ Some found))
+  found_exactly = ((λ found e. (drop (5 - d) found, finds.split found e monic)), (λ rs s. some r refl rs s))
+    where
+      some : (o : Option (List ℕ)) → r ≡ o → (rs : List ℕ) → Split p d rs → (found : List ℕ) × (r ≡ Some found)
+      some (Some found) e rs s = (found, e)
+      some None e rs s = absurd (finds.none e rs s)
 
   -- and each root that is not 0 is one of those found
-  pub all_found : r.found ≡ true → (x : ℕ) → 0 < x → x < 64 → poly_at p x ≡ 0 → Fresh x (drop (5 - d) r.roots) → ⊥
-  all_found f x pos lt root fresh =
-      let s = finds.split f monic in
-      too_many p (x ∷ drop (5 - d) r.roots) d monic (pos, lt, fresh, s.places) (let m = s.many in omega arith) (root, s.zeros)
+  pub all_found : (found : List ℕ) → r ≡ Some found → (x : ℕ) → 0 < x → x < 64 → poly_at p x ≡ 0 → Fresh x (drop (5 - d) found) → ⊥
+  all_found found e x pos lt root fresh =
+      let s = finds.split found e monic in
+      too_many p (x ∷ drop (5 - d) found) d monic (pos, lt, fresh, s.places) (let m = s.many in omega arith) (root, s.zeros)

@@ -2,14 +2,7 @@
 #![tactic(auto)]
 
 ghost use Rattle.std.specs.Prelude.{◌≡◌, ◌<◌, get_or};
-ghost use Rattle.locations.specs.Roots.{Finds, Nowhere, Divides, Tried, halves};
-
-// Places at which errors were found: the last of five, as many as were sought.
-#[derive(Clone, Copy)]
-pub struct Locations {
-    pub found: bool,
-    pub roots: [u8; 5],
-}
+ghost use Rattle.locations.specs.Roots.{Finds, Divides, Tried, halves};
 
 // A polynomial divided by x + r, with a 0 after it, and the remainder, which is its value at r.
 #[derive(Clone, Copy)]
@@ -18,94 +11,65 @@ struct Division {
     remainder: u8,
 }
 
-// The roots of a polynomial of this degree whose highest coefficient is 1, where it has as many that are not 0 and differ.
+// The roots of a polynomial of this degree whose highest coefficient is 1, where it has as many that are not 0 and differ: the last of five.
 //
 // 001: "If the polynomial is of order one or two, the solution is obtained directly. If it is of higher order, the roots are sought by trial and error
 // using synthetic division. After a root is found, the reduced polynomial, obtained by dividing the polynomial by the linear factor containing the
 // root, is used for solving the remaining roots. When the order of the polynomial is reduced to two, the solution is obtained directly."
-pub fn roots_of(p: [u8; 6], degree: usize) -> Locations
+pub fn roots_of(p: [u8; 6], degree: usize) -> Option<[u8; 5]>
     ensures { Finds p degree result }
 {
-    if degree > 5 {
-        return nowhere();
-    }
-    if degree == 0 {
-        return Locations {
-            found: true,
-            roots: [0u8; 5],
-        };
-    }
-    if degree == 1 {
-        return linear(p);
-    }
-    if degree == 2 {
-        return quadratic(p);
-    }
-    let x = trial(p);
-    if x == 0 {
-        return nowhere();
-    }
-    let once = divided(p, x);
-    let rest_of = once.quotient;
-    // A double root would be one location taken twice.
-    let twice = divided(rest_of, x);
-    if twice.remainder == 0 {
-        return nowhere();
-    }
-    let mut rest = roots_of(rest_of, degree - 1);
-    let at = 5 - degree;
-    rest.roots[at] = x;
-    rest
-}
-
-fn nowhere() -> Locations
-    ensures { Nowhere result }
-{
-    Locations {
-        found: false,
-        roots: [0u8; 5],
+    match degree {
+        0 => Some([0u8; 5]),
+        1 => linear(p),
+        2 => quadratic(p),
+        3..=5 => {
+            let x = trial(p)?;
+            let once = divided(p, x);
+            // A double root would be one location taken twice.
+            let twice = divided(once.quotient, x);
+            if twice.remainder == 0 {
+                return None;
+            }
+            let mut roots = roots_of(once.quotient, degree - 1)?;
+            roots[5 - degree] = x;
+            Some(roots)
+        }
+        _ => None,
     }
 }
 
 // The root of x + c.
-fn linear(p: [u8; 6]) -> Locations
+fn linear(p: [u8; 6]) -> Option<[u8; 5]>
     ensures { Finds p 1 result }
 {
     let c = p[0] % 64;
     if c == 0 {
-        return nowhere();
+        return None;
     }
-    Locations {
-        found: true,
-        roots: [0, 0, 0, 0, c],
-    }
+    Some([0, 0, 0, 0, c])
 }
 
 // The two roots of x·x + b·x + c: x = b·y, where y·y + y = c / (b·b). 001 calls it "a general solution for quadratics in a Galois field of even
 // order". Where b is 0 there is one root, twice; where c is 0 one root is 0, which is no location.
-fn quadratic(p: [u8; 6]) -> Locations
+fn quadratic(p: [u8; 6]) -> Option<[u8; 5]>
     ensures { Finds p 2 result }
 {
     let c = p[0] % 64;
     let b = p[1] % 64;
     if b == 0 {
-        return nowhere();
+        return None;
     }
     if c == 0 {
-        return nowhere();
+        return None;
     }
     let v = places::over(c, b);
     let u = places::over(v, b);
     if u >= 32 {
-        return nowhere();
+        return None;
     }
-    let y = half(u);
-    let x = places::times(b, y);
-    let other = x ^ b;
-    Locations {
-        found: true,
-        roots: [0, 0, 0, x, other],
-    }
+    let x = places::times(b, half(u));
+    Some([0, 0, 0, x, x ^ b])
 }
 
 // For each u below 32 an even y with y·y + y = u; for the other u there is none.
@@ -118,22 +82,14 @@ fn half(u: u8) -> u8
     requires { u < 32 }
     ensures { result ≡ get_or halves u 0 }
 {
-    HALVES[u as usize]
+    HALVES[usize::from(u)]
 }
 
-// The first root that is not 0, or 0, by trial.
-fn trial(p: [u8; 6]) -> u8
+// The first root that is not 0, by trial.
+fn trial(p: [u8; 6]) -> Option<u8>
     ensures { Tried p result }
 {
-    let mut x: u8 = 1;
-    while x < 64 {
-        let tried = divided(p, x);
-        if tried.remainder == 0 {
-            return x;
-        }
-        x += 1;
-    }
-    0
+    (1..64).find(|x| divided(p, *x).remainder == 0)
 }
 
 // Synthetic division by x + r.
@@ -142,14 +98,12 @@ fn divided(p: [u8; 6], r: u8) -> Division
 {
     let mut quotient = [0u8; 6];
     let mut v: u8 = 0;
-    let mut k: usize = 6;
-    while k > 0 {
-        k -= 1;
+    for k in (0..6).rev() {
         quotient[k] = v;
         v = p[k] ^ places::times(r, v);
     }
     Division {
-        quotient: quotient,
+        quotient,
         remainder: v,
     }
 }

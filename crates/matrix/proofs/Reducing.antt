@@ -1,19 +1,20 @@
 -- What swapping two rows and clearing a column keep: the numbers that make the rows 0, and the unit columns made before.
-use mathlib.Core.Path.{◌≡◌, sym, ap, ap₂, ◌∙◌, subst}
+use mathlib.Core.Path.{◌≡◌, refl, sym, ap, ap₂, ◌∙◌, subst}
 use mathlib.Core.Logic.{⊎_elim}
 use mathlib.Core.List.{List, []}
 use Prim.Native.Nat.{ℕ, suc, ◌+◌, ◌%◌, ◌<◌, ◌≤◌}
 use native.Mathlib.Nat.{eq-or-lt_of_le, le_of_suc-le-suc}
 use native.Mathlib.Numerals.{add-one}
 use native.Mathlib.Omega.{arith}
-use lib.ListN.{length, get_or, set, length-set}
-use lib.Seq.{get_or-set_same, get_or-set_other}
+use lib.ListN.{length, get_or}
+use Rattle.std.specs.Prelude.{None}
+use Rattle.std.specs.List.{SwappedAt}
 use Rattle.numbers.proofs.Cases.{le_or_lt, same_or_not}
 use Rattle.field.specs.Field.{sum, product}
 use Rattle.field.specs.Inside.{inverse}
 use Rattle.field.proofs.Laws
 use Rattle.matrix.specs.System.{at, dot, Null}
-use Rattle.matrix.specs.Inside.{Entries, PivotIn, Cleared, Reduces}
+use Rattle.matrix.specs.Inside.{Entries, Pivot, PivotIn, Cleared, Reduces}
 use Rattle.matrix.proofs.Dots.{dot_lt, dot_added, dot_scaled}
 
 -- ---- two rows change places
@@ -22,25 +23,6 @@ record Swapped (m s : List (List ℕ)) (t p : ℕ) : Type 0 where
   here : get_or s t [] ≡ get_or m p []
   there : get_or s p [] ≡ get_or m t []
   other : (i : ℕ) → (i ≡ t → ⊥) → (i ≡ p → ⊥) → get_or s i [] ≡ get_or m i []
-
--- what the code does
-exchanged : List (List ℕ) → ℕ → ℕ → List (List ℕ)
-exchanged m t p = set (set m t (get_or m p [])) p (get_or m t [])
-
-exchanged_rows : (m : List (List ℕ)) (t p : ℕ) → length m ≡ 5 → t < 5 → p < 5 → Swapped m (exchanged m t p) t p
-unfolding exchanged
-exchanged_rows m t p l ht hp =
-    let old : List ℕ = get_or m t [] in
-    let new : List ℕ = get_or m p [] in
-    let there : get_or (set (set m t new) p old) p [] ≡ old = get_or-set_same (set m t new) p old [] (omega (arith, length-set m t new)) in
-    record {
-      here =
-          ⊎_elim (λ (e : t ≡ p). ap (λ (j : ℕ). get_or (set (set m t new) p old) j []) e ∙ there ∙ ap (λ (j : ℕ). get_or m j []) e)
-          (λ (d : t ≡ p → ⊥). get_or-set_other (set m t new) p t old [] d ∙ get_or-set_same m t new [] (omega arith))
-          (same_or_not t p);
-      there = there;
-      other = λ i d e. get_or-set_other (set m t new) p i old [] e ∙ get_or-set_other m t i new [] d;
-    }
 
 module _ (m s : List (List ℕ)) (t p : ℕ) (w : Swapped m s t p) where
   swapped-back : Swapped s m t p
@@ -82,18 +64,17 @@ reduced_none n m l e =
     }
 
 -- the pivot's row comes to row t
-module _ (n : ℕ) (m r s : List (List ℕ)) (t p : ℕ) (hn : n ≤ 5) (hp : p < n) (b : PivotIn r t n p) (a : ReducedTo n m r t)
-    (e : s ≡ set (set r t (get_or r p [])) p (get_or r t [])) where
+module _ (n : ℕ) (m r s : List (List ℕ)) (t p : ℕ) (b : Pivot r t n p) (a : ReducedTo n m r t) (long : length s ≡ length r) (e : SwappedAt r s t p) where
   rows : Swapped r s t p
-  unfolding exchanged
-  rows = let g = b.least in subst (λ (x : List (List ℕ)). Swapped r x t p) (sym e) (exchanged_rows r t p a.long (omega arith) (omega arith))
+  rows = record { here = e.0 []; there = e.1 []; other = λ i d d'. e.2 i [] d d' }
 
   reduced-swap : ReducedTo n m s t
   reduced-swap =
       let g = b.least in
+      let hp = b.inside in
       record {
         fits = a.fits;
-        long = ap length e ∙ length-set (set r t (get_or r p [])) p (get_or r t []) ∙ length-set r t (get_or r p []) ∙ a.long;
+        long = long ∙ a.long;
         to = λ q z. swapped-null r s t p rows n q (omega arith) hp (a.to q z);
         from = λ q z. a.from q (swapped-null s r t p (swapped-back r s t p rows) n q (omega arith) hp z);
         one = λ i l. ap (λ (row : List ℕ). get_or row i 0) (rows.other i (λ z. omega arith) (λ z. omega arith)) ∙ a.one i l;
@@ -104,7 +85,7 @@ module _ (n : ℕ) (m r s : List (List ℕ)) (t p : ℕ) (hn : n ≤ 5) (hp : p 
       }
 
   swapped-pivot : 0 < at s t t
-  swapped-pivot = subst (λ (row : List ℕ). 0 < get_or row t 0) (sym rows.here) (b.here hp)
+  swapped-pivot = subst (λ (row : List ℕ). 0 < get_or row t 0) (sym rows.here) b.here
 
   -- so that row t may be divided by it
   pub pivot_divides : 0 < at s t t % 64
@@ -200,11 +181,12 @@ module _ (n : ℕ) (o m r : List (List ℕ)) (t : ℕ) (h : t < n) (pivot : 0 < 
 
 -- ---- a turn, and the two ends
 
-pub reduced_turn : (n : ℕ) (m r s x : List (List ℕ)) (t p : ℕ) → n ≤ 5 → p < n → PivotIn r t n p → ReducedTo n m r t
-    → s ≡ set (set r t (get_or r p [])) p (get_or r t []) → Cleared n t s x → length x ≡ 5 → ReducedTo n m x (t + 1)
-reduced_turn n m r s x t p hn hp b a e c l =
-    let g = b.least in
-    reduced-clear n m s x t (omega arith) (swapped-pivot n m r s t p hn hp b a e) (reduced-swap n m r s t p hn hp b a e) c l
+pub reduced_turn : (n : ℕ) (m r s x : List (List ℕ)) (t p : ℕ) → Pivot r t n p → ReducedTo n m r t → length s ≡ length r
+    → SwappedAt r s t p → Cleared n t s x → length x ≡ 5 → ReducedTo n m x (t + 1)
+reduced_turn n m r s x t p b a long e c l =
+    let least = b.least in
+    let inside = b.inside in
+    reduced-clear n m s x t (omega arith) (swapped-pivot n m r s t p b a long e) (reduced-swap n m r s t p b a long e) c l
 
 pub reduced_all : (n : ℕ) (m r : List (List ℕ)) (t : ℕ) → n ≤ t → ReducedTo n m r t → Reduces n m r
 reduced_all n m r t h a =
@@ -219,8 +201,8 @@ reduced_all n m r t h a =
       small = a.small;
     }
 
-pub reduced_stuck : (n : ℕ) (m r : List (List ℕ)) (t p : ℕ) → PivotIn r t n p → n ≤ p → ReducedTo n m r t → Reduces n m r
-reduced_stuck n m r t p b h a =
+pub reduced_stuck : (n : ℕ) (m r : List (List ℕ)) (t : ℕ) → PivotIn r t n None → ReducedTo n m r t → Reduces n m r
+reduced_stuck n m r t b a =
     record {
       steps = t;
       fits = a.fits;
@@ -228,6 +210,6 @@ reduced_stuck n m r t p b h a =
       from = a.from;
       one = a.one;
       other = a.other;
-      stuck = λ l i g k. b.before i g (omega arith);
+      stuck = λ l i. b.none refl i;
       small = a.small;
     }

@@ -6,7 +6,8 @@ use mathlib.Core.List.{List}
 use Prim.Native.Nat.{ℕ, zero, suc, min, ◌<◌, ◌≤◌}
 use native.Mathlib.Nat.{eq-or-lt_of_le, le_of_suc-le-suc}
 use native.Mathlib.Omega.{arith}
-use lib.Dec.{T}
+use Rattle.std.specs.Prelude.{Some, None}
+use Rattle.std.proofs.lemmas.Option.{none-some, same_Some}
 use Rattle.numbers.specs.Total.{total}
 use Rattle.numbers.proofs.Cases.{le_or_lt}
 use Rattle.numbers.proofs.Totals.{total_none, total_only}
@@ -14,10 +15,9 @@ use Rattle.refusal.specs.Promise.{Tells}
 use Rattle.field.specs.Field.{sum, product}
 use Rattle.field.proofs.Laws
 use Rattle.field.proofs.Totals.{total_next}
-use Rattle.matrix.specs.System.{at, dot, Null, Regular, entry, Solves}
+use Rattle.matrix.specs.System.{at, dot, Null, Regular, entry, Solution, Solves}
 use Rattle.matrix.specs.Inside.{low_rows, Reduces, UnitDiagonal, ColumnIs}
 use Rattle.matrix.proofs.Lowering.{low_null, null_low}
-use Rattle.matrix.proofs.Turns.{blank, blank_zero}
 
 -- ---- numbers that make the reduced rows 0
 
@@ -155,21 +155,15 @@ short_steps n m r a d =
 
 -- ---- what is found
 
-true_not_false : true ≡ false → ⊥
-true_not_false e = subst T e tt
-
-found_solves : (n : ℕ) (m r : List (List ℕ)) (p : List ℕ) → n ≤ 5 → Reduces n (low_rows m) r → UnitDiagonal n r → ColumnIs r n p
-    → Solves n m (record { found = true; unknowns = p })
-found_solves n m r p h a u c =
+found_solves : (n : ℕ) (m r : List (List ℕ)) (p : List ℕ) → Reduces n (low_rows m) r → UnitDiagonal n r → ColumnIs r n p → Solution n m p
+found_solves n m r p a u c =
     record {
       long = c.long;
       small = column_small n (low_rows m) r n (entry p) a column;
-      regular = λ _ q s t z. unit_regular n (low_rows m) r a e q s t (low_null n m q h z);
-      null = λ _. null_low n m (entry p) h (column_null n (low_rows m) r a (entry p) (subst (λ (t : ℕ). OfColumn r t (entry p)) (sym e) column));
-      top = λ _. c.top;
-      past = λ _. c.past;
-      singular = λ x. absurd (true_not_false x);
-      none = λ x. absurd (true_not_false x);
+      regular = λ q s t z. unit_regular n (low_rows m) r a e q s t (low_null n m q z);
+      null = null_low n m (entry p) (column_null n (low_rows m) r a (entry p) (subst (λ (t : ℕ). OfColumn r t (entry p)) (sym e) column));
+      top = c.top;
+      past = c.past;
     }
   where
     e : a.steps ≡ n
@@ -178,29 +172,26 @@ found_solves n m r p h a u c =
     column : OfColumn r n (entry p)
     column = record { entry = c.entry; top = c.top; past = c.past }
 
-none_solves : (n : ℕ) (m r : List (List ℕ)) → n ≤ 5 → Reduces n (low_rows m) r → (UnitDiagonal n r → ⊥)
-    → Solves n m (record { found = false; unknowns = blank })
-none_solves n m r h a d =
-    record {
-      long = refl;
-      small = λ k. subst (λ (x : ℕ). x < 64) (sym (blank_zero k)) (omega arith);
-      regular = λ x. absurd (true_not_false (sym x));
-      null = λ x. absurd (true_not_false (sym x));
-      top = λ x. absurd (true_not_false (sym x));
-      past = λ x. absurd (true_not_false (sym x));
-      singular = λ _ g.
-          stuck_singular n (low_rows m) r a (short_steps n (low_rows m) r a d) (λ q s t z. g q s t (null_low n m q h z));
-      none = λ _. refl;
-    }
+none_solves : (n : ℕ) (m r : List (List ℕ)) → Reduces n (low_rows m) r → (UnitDiagonal n r → ⊥) → Regular n m → ⊥
+none_solves n m r a d g = stuck_singular n (low_rows m) r a (short_steps n (low_rows m) r a d) (λ q s t z. g q s t (null_low n m q z))
 
 -- the two returns
 module _ (n c : ℕ) (m l r : List (List ℕ)) (b : Bool) (few : c ≡ min n 5) (low : l ≡ low_rows m) (a : Reduces c l r) (t : Tells (UnitDiagonal c r) b) where
-  pub solved_found : (p : List ℕ) → b ≡ true → ColumnIs r c p → Solves (min n 5) m (record { found = true; unknowns = p })
-  solved_found p e s =
-      subst (λ (k : ℕ). Solves k m (record { found = true; unknowns = p })) few
-      (found_solves c m r p (omega arith) (subst (λ (x : List (List ℕ)). Reduces c x r) low a) (t.holds e) s)
+  reduces : Reduces (min n 5) (low_rows m) r
+  reduces = subst (λ (k : ℕ). Reduces k (low_rows m) r) few (subst (λ (x : List (List ℕ)). Reduces c x r) low a)
 
-  pub solved_none : b ≡ false → Solves (min n 5) m (record { found = false; unknowns = blank })
+  pub solved_found : (p : List ℕ) → b ≡ true → ColumnIs r c p → Solves (min n 5) m (Some p)
+  solved_found p e s =
+      record {
+        found = λ q same.
+            subst (Solution (min n 5) m) (same_Some p q same)
+            (found_solves (min n 5) m r p reduces (subst (λ (k : ℕ). UnitDiagonal k r) few (t.holds e)) (subst (λ (k : ℕ). ColumnIs r k p) few s));
+        singular = λ none. absurd (none-some p (sym none));
+      }
+
+  pub solved_none : b ≡ false → Solves (min n 5) m None
   solved_none e =
-      subst (λ (k : ℕ). Solves k m (record { found = false; unknowns = blank })) few
-      (none_solves c m r (omega arith) (subst (λ (x : List (List ℕ)). Reduces c x r) low a) (t.fails e))
+      record {
+        found = λ q same. absurd (none-some q same);
+        singular = λ _. none_solves (min n 5) m r reduces (λ u. t.fails e (subst (λ (k : ℕ). UnitDiagonal k r) (sym few) u));
+      }

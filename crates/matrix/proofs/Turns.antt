@@ -1,51 +1,34 @@
 -- What the loops do, a turn at a time, over plain variables.
 use mathlib.Core.Path.{◌≡◌, refl, sym, ap, ap₂, ◌∙◌, subst}
-use mathlib.Core.Bool.{true, false}
 use mathlib.Core.Logic.{⊎_elim}
 use mathlib.Core.List.{List, [], ◌∷◌}
 use Prim.Native.Nat.{ℕ, zero, suc, ◌+◌, ◌<◌, ◌≤◌}
 use native.Mathlib.Omega.{arith}
-use borrow.Author.Count.{below_none, below_more}
+use borrow.Author.Count.{below_more}
 use lib.ListN.{length, get_or, set, length-set, get_or-eq_default}
 use lib.Seq.{get_or-set_same, get_or-set_other}
 use lib.Bits.{bit_xor}
+use Rattle.std.specs.Prelude.{Option, Some, None, MatchOption}
+use Rattle.std.proofs.lemmas.Option.{none-some, same_Some}
 use Rattle.numbers.proofs.Cases.{le_or_lt, pos_of_not_zero}
-use Rattle.refusal.specs.Promise.{Tells}
-use Rattle.refusal.proofs.Laws.{tells_yes, tells_no}
 use Rattle.field.specs.Field.{sum, product}
 use Rattle.field.specs.Inside.{inverse}
 use Rattle.field.proofs.Laws
 use Rattle.matrix.specs.System.{at}
-use Rattle.matrix.specs.Inside.{PivotIn, RowOver, RowAdded, Cleared, UnitDiagonal, ColumnIs}
+use Rattle.matrix.specs.Inside.{Pivot, PivotIn, RowOver, RowAdded, Cleared, ColumnIs}
 
 -- ---- the first row with a pivot
 
--- the rows passed have 0 in column t
-pub record PassedTo (m : List (List ℕ)) (t n i : ℕ) : Type 0 where
-  pub least : t ≤ i
-  pub most : i ≤ n
-  pub zeros : (k : ℕ) → t ≤ k → k < i → at m k t ≡ 0
-
-pub passed_none : (m : List (List ℕ)) (t n : ℕ) → t < n → PassedTo m t n t
-passed_none m t n h = record { least = omega arith; most = omega arith; zeros = λ k a b. absurd (omega arith) }
-
-pub passed_more : (m : List (List ℕ)) (t n i : ℕ) → i < n → at m i t ≡ 0 → PassedTo m t n i → PassedTo m t n (i + 1)
-passed_more m t n i h z p =
-    let l = p.least in
+pub pivot_found : (m : List (List ℕ)) (t n : ℕ) (r : Option ℕ)
+    → MatchOption r ((k : ℕ) → t ≤ k → k < n → at m k t ≡ 0)
+    (λ i. (t ≤ i) × (i < n) × (at m i t ≡ 0 → ⊥) × ((k : ℕ) → t ≤ k → k < i → at m k t ≡ 0)) → PivotIn m t n r
+pivot_found m t n (Some i) h =
     record {
-      least = omega arith;
-      most = omega arith;
-      zeros = λ k a b. below_more (λ (j : ℕ). t ≤ j → at m j t ≡ 0) i (λ j l c. p.zeros j c l) (λ _. z) k b a;
+      found = λ r e.
+          subst (Pivot m t n) (same_Some i r e) (record { least = h.0; inside = h.1; before = h.3; here = pos_of_not_zero (at m i t) h.2 });
+      none = λ e. absurd (none-some i (sym e));
     }
-
-pub pivot_here : (m : List (List ℕ)) (t n i : ℕ) → (at m i t ≡ 0 → ⊥) → PassedTo m t n i → PivotIn m t n i
-pivot_here m t n i d p = record { least = p.least; most = p.most; before = p.zeros; here = λ _. pos_of_not_zero (at m i t) d }
-
-pub pivot_none : (m : List (List ℕ)) (t n i : ℕ) → n ≤ i → PassedTo m t n i → PivotIn m t n n
-pivot_none m t n i h p =
-    let l = p.least in
-    let g = p.most in
-    record { least = omega arith; most = omega arith; before = λ k a b. p.zeros k a (omega arith); here = λ b. absurd (omega arith) }
+pivot_found m t n None h = record { found = λ r e. absurd (none-some r e); none = λ _. h }
 
 -- ---- a row divided
 
@@ -175,7 +158,8 @@ module _ (n t : ℕ) (m : List (List ℕ)) (pivot : List ℕ) (r : List (List �
         rest = λ j b e. other j (λ q. omega arith) ∙ a.rest j (omega arith) e;
       })
 
-pub cleared_all : (n t : ℕ) (m : List (List ℕ)) (pivot : List ℕ) (r : List (List ℕ)) (i : ℕ) → (t < n) × (n ≤ 5) → n ≤ i → ClearedTo n t m pivot r i → Cleared n t m r
+pub cleared_all : (n t : ℕ) (m : List (List ℕ)) (pivot : List ℕ) (r : List (List ℕ)) (i : ℕ) → (t < n) × (n ≤ 5) → n ≤ i
+    → ClearedTo n t m pivot r i → Cleared n t m r
 cleared_all n t m pivot r i h g a =
     let most = a.most in
     let lt = h.0 in
@@ -184,24 +168,6 @@ cleared_all n t m pivot r i h g a =
       rest = λ j k l d. a.done j k (omega arith) d ∙ ap (λ (row : List ℕ). sum (at m j k) (product (at m j t) (get_or row k 0))) (sym a.row);
       past = λ j k l. ap (λ (row : List ℕ). get_or row k 0) (a.rest j (omega arith) (λ e. omega arith));
     }
-
--- ---- the diagonal
-
-pub record DiagonalTo (n : ℕ) (r : List (List ℕ)) (i : ℕ) : Type 0 where
-  pub most : i ≤ n
-  pub passed : (k : ℕ) → k < i → at r k k ≡ 1
-
-pub diagonal_none : (n : ℕ) (r : List (List ℕ)) → DiagonalTo n r 0
-diagonal_none n r = record { most = omega arith; passed = below_none (λ k. at r k k ≡ 1) }
-
-pub diagonal_again : (n : ℕ) (r : List (List ℕ)) (i : ℕ) → i < n → at r i i ≡ 1 → DiagonalTo n r i → DiagonalTo n r (i + 1)
-diagonal_again n r i h e a = record { most = omega arith; passed = below_more (λ k. at r k k ≡ 1) i a.passed e }
-
-pub diagonal_all : (n : ℕ) (r : List (List ℕ)) (i : ℕ) → n ≤ i → DiagonalTo n r i → Tells (UnitDiagonal n r) true
-diagonal_all n r i h a = tells_yes (record { one = λ k l. a.passed k (omega arith) })
-
-pub diagonal_not : (n : ℕ) (r : List (List ℕ)) (i : ℕ) → i < n → (at r i i ≡ 1 → ⊥) → Tells (UnitDiagonal n r) false
-diagonal_not n r i h d = tells_no (λ u. d (u.one i h))
 
 -- ---- the column
 

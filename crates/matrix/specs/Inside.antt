@@ -1,5 +1,5 @@
 -- What the steps of row reduction promise each other.
-use Rattle.std.specs.Prelude.{◌≡◌, List, [], ◌∷◌, ℕ, ◌%◌, ◌<◌, ◌≤◌, length, get_or}
+use Rattle.std.specs.Prelude.{◌≡◌, List, ℕ, ◌%◌, ◌<◌, ◌≤◌, length, get_or, map, Option, Some, None}
 use Rattle.field.specs.Field.{sum, product}
 use Rattle.field.specs.Inside.{inverse}
 use Rattle.matrix.specs.System.{at, Null}
@@ -9,18 +9,23 @@ pub record Entries (m : List (List ℕ)) : Type 0 where
   pub small : (i k : ℕ) → at m i k < 64
 
 -- each entry by its low six bits
-unfoldable pub low_row : List ℕ → List ℕ
-low_row row = get_or row 0 0 % 64 ∷ get_or row 1 0 % 64 ∷ get_or row 2 0 % 64 ∷ get_or row 3 0 % 64 ∷ get_or row 4 0 % 64 ∷ get_or row 5 0 % 64 ∷ []
+abbrev pub low_row : List ℕ → List ℕ
+low_row row = map (λ x. x % 64) row
 
-unfoldable pub low_rows : List (List ℕ) → List (List ℕ)
-low_rows m = low_row (get_or m 0 []) ∷ low_row (get_or m 1 []) ∷ low_row (get_or m 2 []) ∷ low_row (get_or m 3 []) ∷ low_row (get_or m 4 []) ∷ []
+abbrev pub low_rows : List (List ℕ) → List (List ℕ)
+low_rows m = map low_row m
 
--- the first row from t on, of n, whose entry in column t is not 0, or n
-pub record PivotIn (m : List (List ℕ)) (t n r : ℕ) : Type 0 where
+-- row r is the first from t on, of n, whose entry in column t is not 0
+pub record Pivot (m : List (List ℕ)) (t n r : ℕ) : Type 0 where
   pub least : t ≤ r
-  pub most : r ≤ n
+  pub inside : r < n
   pub before : (i : ℕ) → t ≤ i → i < r → at m i t ≡ 0
-  pub here : r < n → 0 < at m r t
+  pub here : 0 < at m r t
+
+-- it is found, where there is one
+pub record PivotIn (m : List (List ℕ)) (t n : ℕ) (r : Option ℕ) : Type 0 where
+  pub found : (p : ℕ) → r ≡ Some p → Pivot m t n p
+  pub none : r ≡ None → (i : ℕ) → t ≤ i → i < n → at m i t ≡ 0
 
 pub record RowOver (row : List ℕ) (d : ℕ) (r : List ℕ) : Type 0 where
   pub long : length r ≡ 6

@@ -1,9 +1,8 @@
 -- A system of n equations in n unknowns over the field, and what solving it promises.
-use Rattle.std.specs.Prelude.{◌≡◌, true, false, List, [], ℕ, suc, ◌<◌, ◌≤◌, length, get_or, replicate}
+use Rattle.std.specs.Prelude.{◌≡◌, List, [], ℕ, suc, ◌<◌, ◌≤◌, length, get_or, Option, Some, None}
 use Rattle.numbers.specs.Below.{AllBelow}
 use Rattle.numbers.specs.Total.{total}
 use Rattle.field.specs.Field.{product}
-use Rattle.matrix.specs.declared.Solution.{Solution}
 
 -- the entry of row i in column k
 abbrev pub at : List (List ℕ) → ℕ → ℕ → ℕ
@@ -25,13 +24,16 @@ Regular n m = (q : ℕ → ℕ) → ((k : ℕ) → q k < 64) → ((k : ℕ) → 
 abbrev pub entry : List ℕ → ℕ → ℕ
 entry p k = get_or p k 0
 
--- a system is solved exactly where it is regular: the unknowns, 1 after them and 0 past it make each row 0; and else zeros stand for them
-pub record Solves (n : ℕ) (m : List (List ℕ)) (r : Solution) : Type 0 where
-  pub long : length r.unknowns ≡ 6
-  pub small : AllBelow 64 r.unknowns
-  pub regular : r.found ≡ true → Regular n m
-  pub null : r.found ≡ true → Null n m (entry r.unknowns)
-  pub top : r.found ≡ true → get_or r.unknowns n 0 ≡ 1
-  pub past : r.found ≡ true → (k : ℕ) → n < k → get_or r.unknowns k 0 ≡ 0
-  pub singular : r.found ≡ false → Regular n m → ⊥
-  pub none : r.found ≡ false → r.unknowns ≡ replicate 6 0
+-- a solution: the unknowns, 1 after them and 0 past it make each row 0, and no other numbers do
+pub record Solution (n : ℕ) (m : List (List ℕ)) (p : List ℕ) : Type 0 where
+  pub long : length p ≡ 6
+  pub small : AllBelow 64 p
+  pub regular : Regular n m
+  pub null : Null n m (entry p)
+  pub top : get_or p n 0 ≡ 1
+  pub past : (k : ℕ) → n < k → get_or p k 0 ≡ 0
+
+-- a system is solved exactly where it is regular
+pub record Solves (n : ℕ) (m : List (List ℕ)) (r : Option (List ℕ)) : Type 0 where
+  pub found : (p : List ℕ) → r ≡ Some p → Solution n m p
+  pub singular : r ≡ None → Regular n m → ⊥

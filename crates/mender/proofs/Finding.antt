@@ -3,6 +3,7 @@ use mathlib.Core.Path.{◌≡◌, sym, ap, ◌∙◌, subst}
 use mathlib.Core.Bool.{Bool, true, false, cond}
 use mathlib.Core.Logic.{inl, inr, ⊎_elim}
 use mathlib.Core.List.{List}
+use Rattle.std.specs.Prelude.{Option, Some, None}
 use Prim.Native.Nat.{ℕ, min, ◌+◌, ◌-◌, ◌/◌, ◌<◌, ◌≤◌}
 use native.Mathlib.Nat.{le_trans, le_of_eq}
 use native.Mathlib.Omega.{arith}
@@ -22,13 +23,10 @@ use Rattle.code.proofs.Words.{zero_get, characters_below, length_added, added_ge
 use Rattle.code.proofs.Distances.{distance_weight, distance_added}
 use Rattle.code.proofs.Sums.{power_sum_added}
 use Rattle.mender.specs.declared.Mended.{Mended}
-use Rattle.mender.specs.Mender.{Fits, MendsTo, Mends, Word, Nearest, HasSums}
-use Rattle.mender.specs.Inside.{mixed, coef, value_of, ValuedFrom, Nothing}
+use Rattle.mender.specs.Mender.{Fits, Fitting, NoneFits, MendsTo, Mends, Near, NoneNear, Nearest, HasSums}
+use Rattle.mender.specs.Inside.{mixed, coef, value_of, ValuedFrom}
 use Rattle.mender.specs.Found.{SumsTo, Repaired}
 use Rattle.mender.proofs.Fitting.{Least, combines_more, value_is}
-
-pub true_false : true ≡ false → ⊥
-true_false e = let z : ◌≡◌ {A = ℕ} 0 1 = cc in omega arith
 
 -- ---- the values are characters
 
@@ -76,61 +74,44 @@ module _ (s : List ℕ) (c e n r : ℕ) (p : List ℕ) (b : Told c e n) (a : Lea
 
 -- ---- the ways out of find
 
-pub found_none : (s : List ℕ) (c e : ℕ) (m : Mended) → Nothing m → ((w : List ℕ) → Fits s c e w → ⊥) → MendsTo s c e m
-found_none s c e m n h =
-    record {
-      fits = λ t. absurd (true_false (sym t ∙ n.not_found));
-      weighs = λ t. absurd (true_false (sym t ∙ n.not_found));
-      ends = λ t. absurd (true_false (sym t ∙ n.not_found));
-      none = λ t. h;
-      no_weight = λ t. n.no_weight;
-      no_first = λ t. n.no_first;
-      no_last = λ t. n.no_last;
-      no_word = λ t. n.no_word;
-    }
-
-module _ (s : List ℕ) (c e n r : ℕ) (p : List ℕ) (out : Mended) (b : Told c e n) (a : Least s e n r p) where
-  pub found_no_sixth : c ≡ 11 → (mixed (coef p) s 5 ≡ 0 → ⊥) → Nothing out → MendsTo s c e out
-  found_no_sixth q d o = found_none s c e out o (λ u t. d (sixth s c e n r p b a q u t))
+module _ (s : List ℕ) (c e n r : ℕ) (p : List ℕ) (b : Told c e n) (a : Least s e n r p) where
+  pub found_no_sixth : c ≡ 11 → (mixed (coef p) s 5 ≡ 0 → ⊥) → NoneFits s c e
+  found_no_sixth q d = record { none = λ u t. d (sixth s c e n r p b a q u t) }
 
   module _ (w : List ℕ) (v : ValuedFrom p s w 63) (m : ℕ) (weighs : m ≡ weight w) where
-    pub found_heavy : e < m → Nothing out → MendsTo s c e out
-    found_heavy h o =
-        found_none s c e out o
-        (λ u t.
-        let z : m ≡ weight u = weighs ∙ ap weight (only-word s c e n r p b a w v u t) in
-        let y = t.light in
-        omega arith)
+    pub found_heavy : e < m → NoneFits s c e
+    found_heavy h =
+        record {
+          none = λ u t.
+              let z : m ≡ weight u = weighs ∙ ap weight (only-word s c e n r p b a w v u t) in
+              let y = t.light in
+              omega arith;
+        }
 
     module _ (f : Bool) (has : Tells (SumsTo s w c) f) where
-      pub found_other : f ≡ false → Nothing out → MendsTo s c e out
-      found_other q o =
-          found_none s c e out o
-          (λ u y.
-          has.fails q (λ k i. y.sums k i ∙ ap (power_sum (58 + k)) (sym (only-word s c e n r p b a w v u y))))
+      pub found_other : f ≡ false → NoneFits s c e
+      found_other q =
+          record {
+            none = λ u y.
+                has.fails q (λ k i. y.sums k i ∙ ap (power_sum (58 + k)) (sym (only-word s c e n r p b a w v u y)));
+          }
 
-      pub found_word : (i j : ℕ) → Ends (replicate 63 0) w i j → m ≤ e → f ≡ true
-          → MendsTo s c e (record { found = true; weight = m; first = i; last = j; word = w })
+      pub found_word : (i j : ℕ) → Ends (replicate 63 0) w i j → m ≤ e → f ≡ true → Fitting s c e (record { weight = m; first = i; last = j; word = w })
       found_word i j ends y q =
           record {
-            fits = λ _. record {
+            fits = record {
               long = v.long;
               characters = valued_characters p s w v;
               light = omega arith;
               sums = has.holds q;
             };
-            weighs = λ _. weighs;
-            ends = λ _. ends;
-            none = λ z. absurd (true_false z);
-            no_weight = λ z. absurd (true_false z);
-            no_first = λ z. absurd (true_false z);
-            no_last = λ z. absurd (true_false z);
-            no_word = λ z. absurd (true_false z);
+            weighs = weighs;
+            ends = ends;
           }
 
 -- ---- mend
 
-pub mended : (s : List ℕ) (c e x y : ℕ) (m : Mended) → x ≡ min c 11 → y ≡ min e (x / 2) → MendsTo s x y m → Mends s c e m
+pub mended : (s : List ℕ) (c e x y : ℕ) (m : Option Mended) → x ≡ min c 11 → y ≡ min e (x / 2) → MendsTo s x y m → Mends s c e m
 mended s c e x y m ex ey t =
     subst (λ (k : ℕ). MendsTo s (min c 11) (min e (k / 2)) m) ex
     (subst (λ (k : ℕ). MendsTo s (min c 11) k m) ey (subst (λ (k : ℕ). MendsTo s k y m) ex t))
@@ -140,27 +121,12 @@ mended_bounds c e x y ex ey = (omega arith, omega arith)
 
 -- ---- the nearest word with given sums
 
-module _ (P : List ℕ → Type 0) (w : List ℕ) (e : ℕ) (m : Mended) (n : Nothing m) where
-  pub nearest_none : (Word w → (v : List ℕ) → P v → distance w v ≤ e → ⊥) → Nearest P w e m
-  nearest_none h =
-      record {
-        of_word = λ t. absurd (true_false (sym t ∙ n.not_found));
-        is = λ t. absurd (true_false (sym t ∙ n.not_found));
-        apart = λ t. absurd (true_false (sym t ∙ n.not_found));
-        within = λ t. absurd (true_false (sym t ∙ n.not_found));
-        ends = λ t. absurd (true_false (sym t ∙ n.not_found));
-        none = λ t. h;
-        no_weight = λ t. n.no_weight;
-        no_first = λ t. n.no_first;
-        no_last = λ t. n.no_last;
-        no_word = λ t. n.no_word;
-      }
+module _ (P : List ℕ → Type 0) (w : List ℕ) (e : ℕ) where
+  pub other_length : (length w ≡ 63 → ⊥) → NoneNear P w e
+  other_length d = record { none = λ y v p l. d y.long }
 
-  pub other_length : (length w ≡ 63 → ⊥) → Nearest P w e m
-  other_length d = nearest_none (λ y v p l. d y.long)
-
-  pub out_of_range : (b : Bool) → Tells (Characters w) b → b ≡ false → Nearest P w e m
-  out_of_range b t q = nearest_none (λ y v p l. t.fails q y.characters)
+  pub out_of_range : (b : Bool) → Tells (Characters w) b → b ≡ false → NoneNear P w e
+  out_of_range b t q = record { none = λ y v p l. t.fails q y.characters }
 
 -- of a word w with sums u, and sums s wanted: the errors have the sums of both together
 module _ (w u s d : List ℕ) (e : ℕ) (b : Bool) (long : length w ≡ 63) (range : Tells (Characters w) b) (in-range : b ≡ true) (us : PowerSums w u)
@@ -190,45 +156,36 @@ module _ (w u s d : List ℕ) (e : ℕ) (b : Bool) (long : length w ≡ 63) (ran
             ∙ Laws.sum_undo (power_sum (58 + k) w) (get_or s k 0);
       }
 
-  pub none_near : (m : Mended) → ((x : List ℕ) → Fits d 11 e x → ⊥) → Nothing m → Nearest (HasSums s) w e m
-  none_near m f n = nearest_none (HasSums s) w e m n (λ y v p l. f (added w v) (to-fits v p l))
+  pub none_near : NoneFits d 11 e → NoneNear (HasSums s) w e
+  none_near f = record { none = λ y v p l. f.none (added w v) (to-fits v p l) }
 
-  pub one_near : (m : Mended) → m.found ≡ true → Repaired d w e m → Nearest (HasSums s) w e m
-  one_near m q r =
+  pub one_near : (m : Mended) → Repaired d w e m → Near (HasSums s) w e m
+  one_near m r =
       let x : Fits d 11 e r.errors = r.fits in
       record {
-        of_word = λ _. record { long = long; characters = range.holds in-range };
-        is = λ _. subst (HasSums s) (sym r.word) (to-sums r.errors x);
-        apart = λ _. r.weighs ∙ sym (ap (distance w) r.word ∙ distance_added w r.errors (long ∙ sym x.long));
-        within = λ _. le_trans (le_of_eq r.weighs) x.light;
-        ends = λ _. r.ends;
-        none = λ z. absurd (true_false (sym q ∙ z));
-        no_weight = λ z. absurd (true_false (sym q ∙ z));
-        no_first = λ z. absurd (true_false (sym q ∙ z));
-        no_last = λ z. absurd (true_false (sym q ∙ z));
-        no_word = λ z. absurd (true_false (sym q ∙ z));
+        of_word = record { long = long; characters = range.holds in-range };
+        is = subst (HasSums s) (sym r.word) (to-sums r.errors x);
+        apart = r.weighs ∙ sym (ap (distance w) r.word ∙ distance_added w r.errors (long ∙ sym x.long));
+        within = le_trans (le_of_eq r.weighs) x.light;
+        ends = r.ends;
       }
 
 -- ---- one property for another that holds of the same words
 
-pub nearest_as : (P Q : List ℕ → Type 0) (w : List ℕ) (e : ℕ) (m : Mended) → ((v : List ℕ) → P v → Q v) → ((v : List ℕ) → Q v → P v)
+pub nearest_as : (P Q : List ℕ → Type 0) (w : List ℕ) (e : ℕ) (m : Option Mended) → ((v : List ℕ) → P v → Q v) → ((v : List ℕ) → Q v → P v)
     → Nearest P w e m → Nearest Q w e m
-nearest_as P Q w e m to from n =
+nearest_as P Q w e (Some m) to from n =
     record {
       of_word = n.of_word;
-      is = λ t. to m.word (n.is t);
+      is = to m.word n.is;
       apart = n.apart;
       within = n.within;
       ends = n.ends;
-      none = λ t y v q l. n.none t y v (from v q) l;
-      no_weight = n.no_weight;
-      no_first = n.no_first;
-      no_last = n.no_last;
-      no_word = n.no_word;
     }
+nearest_as P Q w e None to from n = record { none = λ y v q l. n.none y v (from v q) l }
 
 -- the clean words are those whose sums are all 0
-pub nearest_clean : (w : List ℕ) (e : ℕ) (m : Mended) → Nearest (HasSums (replicate 11 0)) w e m → Nearest Clean w e m
+pub nearest_clean : (w : List ℕ) (e : ℕ) (m : Option Mended) → Nearest (HasSums (replicate 11 0)) w e m → Nearest Clean w e m
 nearest_clean w e m n =
     nearest_as (HasSums (replicate 11 0)) Clean w e m
     (λ v y. record { long = y.word.long; characters = y.word.characters; sums = λ k h. y.sums k h ∙ zero_get 11 k })

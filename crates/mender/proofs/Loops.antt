@@ -1,15 +1,19 @@
 -- What the loops of the way in do, a turn at a time, over plain variables.
 use mathlib.Core.Path.{◌≡◌, refl, sym, ap, ◌∙◌}
-use mathlib.Core.Bool.{true, false}
+use mathlib.Core.Bool.{Bool, true}
 use mathlib.Core.List.{List}
 use Prim.Native.Nat.{ℕ, ◌+◌, ◌<◌, ◌≤◌}
 use native.Mathlib.Omega.{arith}
 use borrow.Author.Count.{below_more}
-use lib.ListN.{get_or, length, set, length-set}
+use lib.ListN.{get_or, length, set, length-set, take}
 use lib.Seq.{get_or-set_same, get_or-set_other, ext_get_or}
 use lib.Bits.{bit_xor}
+use lib.Dec.{leb}
 use Rattle.refusal.specs.Promise.{Tells}
-use Rattle.refusal.proofs.Laws.{tells_yes, tells_no}
+use Rattle.std.specs.List.{list_all}
+use Rattle.std.proofs.lemmas.Bool.{leb-true, le-leb, false≢true}
+use Rattle.std.proofs.lemmas.List.{length-take-le, get_or-take, get_or_default}
+use Rattle.std.proofs.lemmas.List.Sums.{AllPass-from_list_all, list_all-from_AllPass}
 use Rattle.field.specs.Field.{sum}
 use Rattle.code.specs.Word.{added}
 use Rattle.code.proofs.Words.{length_added, added_get}
@@ -17,14 +21,20 @@ use Rattle.mender.specs.Found.{ElementsTo}
 
 -- ---- whether the first c sums are elements
 
-pub elements_over : (s : List ℕ) (c k : ℕ) → k < c → 63 < get_or s k 0 → Tells (ElementsTo s c) false
-elements_over s c k h o = tells_no (λ t. let l = t k h in omega arith)
+pub elements_are : (s : List ℕ) (c : ℕ) (b : Bool) → c ≤ length s → b ≡ list_all (λ x. leb x 63) (take c s) → Tells (ElementsTo s c) b
+elements_are s c b h e =
+    record {
+      holds = λ q k l. below k l (AllPass-from_list_all (λ x. leb x 63) (take c s) (sym e ∙ q) k 0 (omega (arith, length-take-le c s h)));
+      fails = λ q t. false≢true (sym q ∙ e ∙ list_all-from_AllPass (λ x. leb x 63) (take c s) (λ k d l. at t k d l));
+    }
+  where
+    below : (k : ℕ) → k < c → leb (get_or (take c s) k 0) 63 ≡ true → get_or s k 0 < 64
+    below k l t = let m = leb-true (get_or (take c s) k 0) 63 t in let e = get_or-take c s k 0 l in omega arith
 
-pub elements_all : (s : List ℕ) (c k : ℕ) → c ≤ k → ElementsTo s k → Tells (ElementsTo s c) true
-elements_all s c k h t = tells_yes (λ i l. t i (omega arith))
-
-pub elements_again : (s : List ℕ) (k : ℕ) → ElementsTo s k → get_or s k 0 ≤ 63 → ElementsTo s (k + 1)
-elements_again s k t h = below_more (λ i. get_or s i 0 < 64) k t (omega arith)
+    at : ElementsTo s c → (k d : ℕ) → k < length (take c s) → leb (get_or (take c s) k d) 63 ≡ true
+    at t k d l =
+        let few : k < c = omega (arith, length-take-le c s h) in
+        le-leb (get_or (take c s) k d) 63 (let m = t k few in let e = get_or_default (take c s) k d 0 l in let f = get_or-take c s k 0 few in omega arith)
 
 -- ---- two lists added, of n entries
 

@@ -1,6 +1,5 @@
 -- One error: where each of the eleven sums is the one before it times x, a single value at the place x has them.
 use mathlib.Core.Path.{◌≡◌, refl, sym, ap, ap₂, ◌∙◌, subst}
-use mathlib.Core.Bool.{true, false}
 use mathlib.Core.List.{List, [], ◌∷◌}
 use mathlib.Core.Logic.{⊎_elim}
 use Prim.Native.Nat.{ℕ, zero, suc, ◌+◌, ◌-◌, ◌*◌, ◌/◌, ◌%◌, ◌<◌}
@@ -22,10 +21,8 @@ use Rattle.sums.specs.Held.{eleven}
 use Rattle.code.proofs.Words.{zero_get}
 use Rattle.sums.proofs.Holding.{eleven_first, eleven_last, eleven_characters}
 use Rattle.code.proofs.Sums.{power_sum_set}
-use Rattle.mender.specs.declared.Single.{Single}
 use Rattle.mender.specs.Mender.{Fits}
-use Rattle.mender.specs.Found.{lone, OneError}
-use Rattle.mender.proofs.Finding.{true_false}
+use Rattle.mender.specs.Found.{lone, Lone}
 
 -- ---- the word with one character
 
@@ -141,27 +138,22 @@ after_first h =
 pub sum_divides : (a y : ℕ) → y ≡ a % 64 → (y ≡ 0 → ⊥) → 0 < y % 64
 sum_divides a y e d = Laws.may_divide y (omega arith) d
 
-pub one_error : (h : Sums) (y z i x p l : ℕ) → y ≡ h.first / 1073741824 % 64 → (y ≡ 0 → ⊥) → x ≡ product z i
-    → p ≡ pack 10 (λ k. product (lane h.first k) x) → p ≡ h.first / 64 % 18014398509481984 + h.last % 64 * 18014398509481984
-    → LogOf x l → OneError (eleven h) (record { found = true; address = 62 - l; value = y })
+pub one_error : (h : Sums) (y z i x p t l a : ℕ) → y ≡ h.first / 1073741824 % 64 → (y ≡ 0 → ⊥) → x ≡ product z i
+    → p ≡ pack 10 (λ k. product (lane h.first k) x) → p ≡ h.first / 64 % 18014398509481984 + t * 18014398509481984
+    → t ≡ h.last % 64 → LogOf x l → a ≡ l → Lone (eleven h) (record { address = 62 - a; value = y })
 unfolding lane
-one_error h y z i x p l ey d q ep en log =
+one_error h y z i x p t l a ey d q ep eq et log ea =
     let b : l < 63 = log.below in
-    record {
-      inside = λ _. omega arith;
-      some = λ _. pos_of_not_zero y d;
-      fits = λ _.
+    let en : p ≡ h.first / 64 % 18014398509481984 + h.last % 64 * 18014398509481984 =
+    eq ∙ ap (λ (n : ℕ). h.first / 64 % 18014398509481984 + n * 18014398509481984) et in
+    subst (λ (n : ℕ). Lone (eleven h) (record { address = 62 - n; value = y })) (sym ea)
+    (record {
+      inside = omega arith;
+      some = pos_of_not_zero y d;
+      fits =
           one_fits (eleven h) x y l (λ k _. eleven_characters h k)
           (λ k i.
           sym (pack_equal 10 (λ k. product (lane h.first k) x) (λ k. get_or (eleven h) (suc k) 0) (λ k. Laws.product_lt (lane h.first k) x) (λ k. eleven_characters h (suc k)) (sym ep ∙ en ∙ after_first h) k i)
           ∙ ap (λ (t : ℕ). product t x) (sym (eleven_first h k i)))
           (ey ∙ sym (eleven_first h 5 (omega arith))) (pos_of_not_zero y d) (subst (λ (n : ℕ). n < 64) (sym q) (Laws.product_lt z i)) log;
-    }
-
-pub no_error : (s : List ℕ) (o : Single) → o.found ≡ false → OneError s o
-no_error s o e =
-    record {
-      inside = λ t. absurd (true_false (sym t ∙ e));
-      some = λ t. absurd (true_false (sym t ∙ e));
-      fits = λ t. absurd (true_false (sym t ∙ e));
-    }
+    })

@@ -3,6 +3,7 @@ use mathlib.Core.Path.{◌≡◌, refl, sym, ap, ap₂, ◌∙◌, subst}
 use mathlib.Core.Bool.{Bool, true, false}
 use mathlib.Core.Logic.{⊎_elim}
 use mathlib.Core.List.{List}
+use Rattle.std.specs.Prelude.{Option, Some, None}
 use Prim.Native.Nat.{ℕ, min, ◌+◌, ◌*◌, ◌/◌, ◌%◌, ◌^◌, ◌<◌, ◌≤◌}
 use native.Mathlib.Nat.{le_trans, le_of_eq, one-le-pow, one-mul}
 use native.Mathlib.Omega.{arith}
@@ -14,7 +15,7 @@ use lib.Pow.{shl_exact}
 use borrow.Author.Tests.{eqb-true, eqb-false}
 use Rattle.numbers.proofs.Cases.{le_or_lt, same_or_not}
 use Rattle.refusal.specs.Promise.{Tells}
-use Rattle.refusal.proofs.Laws.{tells_yes, tells_no}
+use Rattle.refusal.proofs.Laws.{tells_no}
 use Rattle.numbers.specs.Total.{total}
 use Rattle.field.specs.Field.{sum, product}
 use Rattle.field.proofs.Laws
@@ -32,34 +33,28 @@ use Rattle.code.proofs.Changes.{ends_none, ends_one, ends_added}
 use Rattle.sums.proofs.Holding.{eleven_first, eleven_last, eleven_long, eleven_characters}
 use Rattle.mender.specs.declared.Mended.{Mended}
 use Rattle.mender.specs.declared.Single.{Single}
-use Rattle.mender.specs.Mender.{Fits, MendsTo, Mends, Nearest, HasSums}
+use Rattle.mender.specs.Mender.{Fits, Fitting, NoneFits, MendsTo, Mends, NoneNear, Nearest, HasSums}
 use Rattle.mender.specs.Inside.{Nothing}
-use Rattle.mender.specs.Found.{lone, OneError, ElementsTo, ZeroTo, SumsTo, Clear, Repairs, Without, Corrects, sixth}
+use Rattle.mender.specs.Found.{lone, Lone, ElementsTo, ZeroTo, SumsTo, Clear, Repaired, Repairs, Without, Corrects, sixth}
 use Rattle.mender.proofs.OneError.{lone_long, lone_here, lone_other, lone_weight, weight_nothing, sums_nothing}
 use Rattle.mender.proofs.rows.Loops.{pow_lane}
 use Rattle.mender.proofs.rows.Weaving.{pack_none}
-use Rattle.mender.proofs.Finding.{true_false, found_none, none_near, one_near, nearest_none, mended}
+use Rattle.mender.proofs.Finding.{none_near, one_near, mended}
 
 -- ---- sums that are no elements are those of no word
 
-pub not_elements : (s : List ℕ) (c e : ℕ) (m : Mended) (b : Bool) → Tells (ElementsTo s c) b → b ≡ false → Nothing m → MendsTo s c e m
-not_elements s c e m b t q n =
-    found_none s c e m n (λ w f. t.fails q (λ k l. subst (λ (v : ℕ). v < 64) (sym (f.sums k l)) (power_sum_lt (58 + k) w)))
+pub not_elements : (s : List ℕ) (c e : ℕ) (b : Bool) → Tells (ElementsTo s c) b → b ≡ false → NoneFits s c e
+not_elements s c e b t q =
+    record { none = λ w f. t.fails q (λ k l. subst (λ (v : ℕ). v < 64) (sym (f.sums k l)) (power_sum_lt (58 + k) w)) }
 
 -- ---- sums that agree mend alike
 
-pub mends_same : (s t : List ℕ) (c e : ℕ) (m : Mended) → ((k : ℕ) → k < c → get_or s k 0 ≡ get_or t k 0) → MendsTo t c e m → MendsTo s c e m
-mends_same s t c e m h f =
-    record {
-      fits = λ q. let g = f.fits q in record { long = g.long; characters = g.characters; light = g.light; sums = λ k l. h k l ∙ g.sums k l };
-      weighs = f.weighs;
-      ends = f.ends;
-      none = λ q w g. f.none q w (record { long = g.long; characters = g.characters; light = g.light; sums = λ k l. sym (h k l) ∙ g.sums k l });
-      no_weight = f.no_weight;
-      no_first = f.no_first;
-      no_last = f.no_last;
-      no_word = f.no_word;
-    }
+fits_same : (s t : List ℕ) (c e : ℕ) (w : List ℕ) → ((k : ℕ) → k < c → get_or s k 0 ≡ get_or t k 0) → Fits t c e w → Fits s c e w
+fits_same s t c e w h g = record { long = g.long; characters = g.characters; light = g.light; sums = λ k l. h k l ∙ g.sums k l }
+
+pub mends_same : (s t : List ℕ) (c e : ℕ) (m : Option Mended) → ((k : ℕ) → k < c → get_or s k 0 ≡ get_or t k 0) → MendsTo t c e m → MendsTo s c e m
+mends_same s t c e (Some m) h f = record { fits = fits_same s t c e m.word h f.fits; weighs = f.weighs; ends = f.ends }
+mends_same s t c e None h f = record { none = λ w g. f.none w (fits_same t s c e w (λ k l. sym (h k l)) g) }
 
 low_same : (c : ℕ) → c < 64 → c ≡ c % 64
 low_same c h = omega arith
@@ -83,17 +78,16 @@ sums_zero h f l =
     ten : (k : ℕ) → 10 ≤ k → k < 11 → k ≡ 10
     ten k g b = omega arith
 
-pub zero_not : (h : Sums) → (h.first % 1152921504606846976 ≡ 0 → ⊥) → Tells (Clear (eleven h)) false
+first_zero : (h : Sums) → Clear (eleven h) → h.first % 1152921504606846976 ≡ 0
 unfolding pack
-zero_not h d =
-    tells_no (λ z.
-    d (pack_lanes 10 h.first ∙ pack_same 10 (lane h.first) (λ k. 0) (λ k b. sym (eleven_first h k b) ∙ z.zero k (omega arith))))
+first_zero h z = pack_lanes 10 h.first ∙ pack_same 10 (lane h.first) (λ k. 0) (λ k b. sym (eleven_first h k b) ∙ z.zero k (omega arith))
 
-pub last_not : (h : Sums) → (h.last % 64 ≡ 0 → ⊥) → Tells (Clear (eleven h)) false
-last_not h d = tells_no (λ z. d (sym (eleven_last h) ∙ z.zero 10 (omega arith)))
+pub zero_not : (h : Sums) → (h.first % 1152921504606846976 ≡ 0 → ⊥) → Tells (Clear (eleven h)) false
+zero_not h d = tells_no (λ z. d (first_zero h z))
 
-pub zero_all : (h : Sums) → h.first % 1152921504606846976 ≡ 0 → h.last % 64 ≡ 0 → Tells (Clear (eleven h)) true
-zero_all h f l = tells_yes (sums_zero h f l)
+pub zero_told : (h : Sums) → h.first % 1152921504606846976 ≡ 0 → Tells (Clear (eleven h)) (eqb (h.last % 64) 0)
+zero_told h f =
+    record { holds = λ q. sums_zero h f (eqb-true (h.last % 64) 0 q); fails = λ q z. eqb-false (h.last % 64) 0 q (sym (eleven_last h) ∙ z.zero 10 (omega arith)) }
 
 -- ---- whether the first c sums are 0
 
@@ -159,19 +153,12 @@ nothing_fits s c e z =
 
 -- the word is repaired by any errors that fit, and is changed where they are
 repairs_by : (s w r x : List ℕ) (e k i j : ℕ) → length w ≡ 63 → Fits s 11 e x → k ≡ weight x → r ≡ added w x → Ends (replicate 63 0) x i j
-    → Repairs s w e (record { found = true; weight = k; first = i; last = j; word = r })
+    → Repaired s w e (record { weight = k; first = i; last = j; word = r })
 repairs_by s w r x e k i j long fits weighs g ends =
-    record {
-      repaired = λ _. record { errors = x; fits = fits; weighs = weighs; word = g; ends = ends_added w x r i j long fits.long g ends };
-      none = λ z. absurd (true_false z);
-      no_weight = λ z. absurd (true_false z);
-      no_first = λ z. absurd (true_false z);
-      no_last = λ z. absurd (true_false z);
-      no_word = λ z. absurd (true_false z);
-    }
+    record { errors = x; fits = fits; weighs = weighs; word = g; ends = ends_added w x r i j long fits.long g ends }
 
 pub repairs_none : (s w r : List ℕ) (e : ℕ) (b : Bool) → length w ≡ 63 → Tells (Clear s) b → b ≡ true → r ≡ added w (replicate 63 0)
-    → Repairs s w e (record { found = true; weight = 0; first = 63; last = 63; word = r })
+    → Repaired s w e (record { weight = 0; first = 63; last = 63; word = r })
 repairs_none s w r e b long t q g = repairs_by s w r (replicate 63 0) e 0 63 63 long (nothing_fits s 11 e (t.holds q).zero) (sym (weight_nothing 63)) g ends_none
 
 lighter : (s : List ℕ) (e : ℕ) (w : List ℕ) → 0 < e → Fits s 11 1 w → Fits s 11 e w
@@ -182,34 +169,23 @@ lone_ends : (a v : ℕ) → a < 63 → 0 < v → Ends (replicate 63 0) (lone a v
 unfolding lone
 lone_ends a v h p = ends_one (replicate 63 0) a v 63 63 refl h (λ i _. zero_get 63 i) (λ z. omega arith) ends_none refl
 
-pub repairs_one : (s w r : List ℕ) (e : ℕ) (o : Single) → length w ≡ 63 → 0 < e → OneError s o → o.found ≡ true → r ≡ added w (lone o.address o.value)
-    → Repairs s w e (record { found = true; weight = 1; first = o.address; last = o.address; word = r })
-repairs_one s w r e o long h a q g =
+pub repairs_one : (s w r : List ℕ) (e : ℕ) (o : Single) → length w ≡ 63 → 0 < e → Lone s o → r ≡ added w (lone o.address o.value)
+    → Repaired s w e (record { weight = 1; first = o.address; last = o.address; word = r })
+repairs_one s w r e o long h a g =
     let b : ℕ = o.address in
     let v : ℕ = o.value in
-    repairs_by s w r (lone b v) e 1 b b long (lighter s e (lone b v) h (a.fits q)) (sym (lone_weight b v (a.inside q) (a.some q))) g
-    (lone_ends b v (a.inside q) (a.some q))
+    repairs_by s w r (lone b v) e 1 b b long (lighter s e (lone b v) h a.fits) (sym (lone_weight b v a.inside a.some)) g
+    (lone_ends b v a.inside a.some)
 
-pub repairs_not : (s w : List ℕ) (e : ℕ) (f m : Mended) → MendsTo s 11 e f → f.found ≡ false → Nothing m → Repairs s w e m
-repairs_not s w e f m a q n =
-    record {
-      repaired = λ t. absurd (true_false (sym t ∙ n.not_found));
-      none = λ _. a.none q;
-      no_weight = λ _. n.no_weight;
-      no_first = λ _. n.no_first;
-      no_last = λ _. n.no_last;
-      no_word = λ _. n.no_word;
-    }
-
-pub repairs_more : (s w r : List ℕ) (e : ℕ) (f : Mended) → length w ≡ 63 → MendsTo s 11 e f → f.found ≡ true → r ≡ added w f.word
-    → Repairs s w e (record { found = true; weight = f.weight; first = f.first; last = f.last; word = r })
-repairs_more s w r e f long a q g = repairs_by s w r f.word e f.weight f.first f.last long (a.fits q) (a.weighs q) g (a.ends q)
+pub repairs_more : (s w r : List ℕ) (e : ℕ) (f : Mended) → length w ≡ 63 → Fitting s 11 e f → r ≡ added w f.word
+    → Repaired s w e (record { weight = f.weight; first = f.first; last = f.last; word = r })
+repairs_more s w r e f long a g = repairs_by s w r f.word e f.weight f.first f.last long a.fits a.weighs g a.ends
 
 -- a word of another length is not repaired, and one of 63 characters within five errors
-pub without_other : (s w : List ℕ) (e : ℕ) (m : Mended) → (length w ≡ 63 → ⊥) → Nothing m → Without s w e m
+pub without_other : (s w : List ℕ) (e : ℕ) (m : Option Mended) → (length w ≡ 63 → ⊥) → Nothing m → Without s w e m
 without_other s w e m d n = record { whole = λ l. absurd (d l); other = λ _. n }
 
-pub without_whole : (s w : List ℕ) (e x : ℕ) (m : Mended) → length w ≡ 63 → x ≡ min e 5 → Repairs s w x m → Without s w e m
+pub without_whole : (s w : List ℕ) (e x : ℕ) (m : Option Mended) → length w ≡ 63 → x ≡ min e 5 → Repairs s w x m → Without s w e m
 without_whole s w e x m l q r = record { whole = λ _. subst (λ (k : ℕ). Repairs s w k m) q r; other = λ d. absurd (d l) }
 
 -- ---- one character changed
@@ -234,19 +210,14 @@ one_changed w r a v l h e =
 
 -- ---- the nearest word
 
-pub near : (w u s d : List ℕ) (e : ℕ) (b : Bool) (m : Mended) → length w ≡ 63 → Tells (Characters w) b → b ≡ true → PowerSums w u → length s ≡ 11 → d ≡ added u s
-    → Repairs d w e m → Nearest (HasSums s) w e m
-near w u s d e b m l t q us ls ed r = pick m.found refl
-  where
-    pick : (f : Bool) → m.found ≡ f → Nearest (HasSums s) w e m
-    pick true z = one_near w u s d e b l t q us ls ed m z (r.repaired z)
-    pick false z =
-        none_near w u s d e b l t q us ls ed m (r.none z)
-        (record { not_found = z; no_weight = r.no_weight z; no_first = r.no_first z; no_last = r.no_last z; no_word = r.no_word z })
+pub near : (w u s d : List ℕ) (e : ℕ) (b : Bool) (m : Option Mended) → length w ≡ 63 → Tells (Characters w) b → b ≡ true → PowerSums w u → length s ≡ 11
+    → d ≡ added u s → Repairs d w e m → Nearest (HasSums s) w e m
+near w u s d e b (Some m) l t q us ls ed r = one_near w u s d e b l t q us ls ed m r
+near w u s d e b None l t q us ls ed r = none_near w u s d e b l t q us ls ed r
 
-pub not_wanted : (w s : List ℕ) (e : ℕ) (m : Mended) (b : Bool) → Tells (ElementsTo s 11) b → b ≡ false → Nothing m → Nearest (HasSums s) w e m
-not_wanted w s e m b t q n =
-    nearest_none (HasSums s) w e m n (λ y v p l. t.fails q (λ k h. subst (λ (x : ℕ). x < 64) (p.sums k h) (power_sum_lt (58 + k) v)))
+pub not_wanted : (w s : List ℕ) (e : ℕ) (b : Bool) → Tells (ElementsTo s 11) b → b ≡ false → NoneNear (HasSums s) w e
+not_wanted w s e b t q =
+    record { none = λ y v p l. t.fails q (λ k h. subst (λ (x : ℕ). x < 64) (p.sums k h) (power_sum_lt (58 + k) v)) }
 
 -- the sums wanted, packed, are those sums
 pub packed_same : (s : List ℕ) (h : Sums) (b : Bool) → length s ≡ 11 → Tells (ElementsTo s 11) b → b ≡ true → eleven h ≡ lowered s → eleven h ≡ s
@@ -291,41 +262,33 @@ sixth_is x h y p v ey ep ev =
     ∙ ap₂ product (lane_after x 5 k) (ap (λ (q : ℕ). lane q k) (ey ∙ window_is h) ∙ lane_pack 10 (window h) (λ k. eleven_characters h (5 + k)) k l))
     ∙ total_six (λ k. product (lane x (5 + k)) (window h k)) (λ k g. ap (product (lane x (5 + k))) (window_past h k g) ∙ Laws.product_zero (lane x (5 + k)))
 
-pub sixth_not : (x : ℕ) (h : Sums) (p v : ℕ)
-    → p ≡ pack 10 (λ k. product (lane (x / 1073741824) k) (lane (h.first / 1073741824 % 1073741824 + h.last % 64 * 1073741824) k)) → v ≡ total 10 (lane p)
-    → (v ≡ 0 → ⊥) → Tells (sixth x (eleven h) ≡ 0) false
-sixth_not x h p v ep ev d = tells_no (λ z. d (sixth_is x h (h.first / 1073741824 % 1073741824 + h.last % 64 * 1073741824) p v refl ep ev ∙ z))
-
-pub sixth_zero : (x : ℕ) (h : Sums) (p v : ℕ)
-    → p ≡ pack 10 (λ k. product (lane (x / 1073741824) k) (lane (h.first / 1073741824 % 1073741824 + h.last % 64 * 1073741824) k)) → v ≡ total 10 (lane p)
-    → v ≡ 0 → Tells (sixth x (eleven h) ≡ 0) true
-sixth_zero x h p v ep ev z = tells_yes (sym (sixth_is x h (h.first / 1073741824 % 1073741824 + h.last % 64 * 1073741824) p v refl ep ev) ∙ z)
+pub sixth_told : (x : ℕ) (h : Sums) (t p v : ℕ) → t ≡ h.last % 64
+    → p ≡ pack 10 (λ k. product (lane (x / 1073741824) k) (lane (h.first / 1073741824 % 1073741824 + t * 1073741824) k)) → v ≡ total 10 (lane p)
+    → Tells (sixth x (eleven h) ≡ 0) (eqb v 0)
+sixth_told x h t p v et ep ev =
+    record { holds = λ q. sym same ∙ eqb-true v 0 q; fails = λ q z. eqb-false v 0 q (same ∙ z) }
+  where
+    same : v ≡ sixth x (eleven h)
+    same =
+        sixth_is x h (h.first / 1073741824 % 1073741824 + t * 1073741824) p v
+        (ap (λ (n : ℕ). h.first / 1073741824 % 1073741824 + n * 1073741824) et) ep ev
 
 -- ---- eleven sums, packed
 
-pub mended_eleven : (s : List ℕ) (e x : ℕ) (m : Mended) → x ≡ min e 5 → MendsTo s 11 x m → Mends s 11 e m
+pub mended_eleven : (s : List ℕ) (e x : ℕ) (m : Option Mended) → x ≡ min e 5 → MendsTo s 11 x m → Mends s 11 e m
 mended_eleven s e x m q f = subst (λ (k : ℕ). MendsTo s 11 k m) q f
 
 -- ---- the first c of them
 
-module _ (h : Sums) (c e x : ℕ) (b : Bool) (ex : x ≡ min c 11) (t : Tells (ZeroTo (eleven h) x) b) where
-  pub first_none : b ≡ true → Mends (eleven h) c e (record { found = true; weight = 0; first = 63; last = 63; word = replicate 63 0 })
-  first_none q =
-      mended (eleven h) c e x (min e (x / 2)) (record { found = true; weight = 0; first = 63; last = 63; word = replicate 63 0 }) ex refl
-      (record {
-        fits = λ _.
-            nothing_fits (eleven h) x (min e (x / 2)) (t.holds q);
-        weighs = λ _. sym (weight_nothing 63);
-        ends = λ _. ends_none;
-        none = λ f. absurd (true_false f);
-        no_weight = λ f. absurd (true_false f);
-        no_first = λ f. absurd (true_false f);
-        no_last = λ f. absurd (true_false f);
-        no_word = λ f. absurd (true_false f);
-      })
-
-pub first_found : (s : List ℕ) (c e x y : ℕ) (m : Mended) → x ≡ min c 11 → y ≡ min e (x / 2) → MendsTo s x y m → Mends s c e m
-first_found s c e x y m = mended s c e x y m
+pub first_none : (h : Sums) (c e x : ℕ) (b : Bool) → x ≡ min c 11 → Tells (ZeroTo (eleven h) x) b → b ≡ true
+    → Fitting (eleven h) (min c 11) (min e (min c 11 / 2)) (record { weight = 0; first = 63; last = 63; word = replicate 63 0 })
+first_none h c e x b ex t q =
+    subst (λ (n : ℕ). Fitting (eleven h) n (min e (n / 2)) (record { weight = 0; first = 63; last = 63; word = replicate 63 0 })) ex
+    (record {
+      fits = nothing_fits (eleven h) x (min e (x / 2)) (t.holds q);
+      weighs = sym (weight_nothing 63);
+      ends = ends_none;
+    })
 
 -- ---- errors added
 
@@ -337,25 +300,24 @@ corrects_whole w x r l e = record { whole = λ _. e; other = λ d. absurd (d l) 
 
 -- ---- mend
 
-module _ (s : List ℕ) (c e x y : ℕ) (m : Mended) (b : Bool) (ex : x ≡ min c 11) (ey : y ≡ min e (x / 2)) (t : Tells (ElementsTo s x) b) where
-  pub mend_refused : b ≡ false → Nothing m → Mends s c e m
-  mend_refused q n = mended s c e x y m ex ey (not_elements s x y m b t q n)
+module _ (s : List ℕ) (c e x y : ℕ) (b : Bool) (ex : x ≡ min c 11) (ey : y ≡ min e (x / 2)) (t : Tells (ElementsTo s x) b) where
+  pub mend_refused : b ≡ false → Mends s c e None
+  mend_refused q = mended s c e x y None ex ey (not_elements s x y b t q)
 
-  pub mend_found : b ≡ true → (h : Sums) → eleven h ≡ lowered s → MendsTo (eleven h) x y m → Mends s c e m
-  mend_found q h eh f =
+  pub mend_found : (m : Option Mended) → b ≡ true → (h : Sums) → eleven h ≡ lowered s → MendsTo (eleven h) x y m → Mends s c e m
+  mend_found m q h eh f =
       mended s c e x y m ex ey
       (mends_same s (eleven h) x y m (λ k l. lowered_same s x k (omega arith) (t.holds q) l ∙ ap (λ (u : List ℕ). get_or u k 0) (sym eh)) f)
 
--- one error lies inside the word
-pub one_inside : (s : List ℕ) (o : Single) → OneError s o → o.found ≡ true → o.address < 63
-one_inside s o a q = a.inside q
+-- one error lies inside the word, and so its address is a byte
+pub one_inside : (s : List ℕ) (o : Single) → Lone s o → o.address < 63
+one_inside s o a = a.inside
 
--- and so its address is a byte
-pub address_fits : (s : List ℕ) (o : Single) → OneError s o → o.found ≡ true → o.address < 256
-address_fits s o a q = let h = a.inside q in omega arith
+pub address_fits : (s : List ℕ) (o : Single) → Lone s o → o.address < 256
+address_fits s o a = let h = a.inside in omega arith
 
 -- what the nearest word asks of its parts
-pub wanted_near : (w u s d : List ℕ) (h : Sums) (e : ℕ) (b f : Bool) (m : Mended) → length w ≡ 63 → Tells (Characters w) b → b ≡ true → PowerSums w u → length s ≡ 11
+pub wanted_near : (w u s d : List ℕ) (h : Sums) (e : ℕ) (b f : Bool) (m : Option Mended) → length w ≡ 63 → Tells (Characters w) b → b ≡ true → PowerSums w u → length s ≡ 11
     → Tells (ElementsTo s 11) f → f ≡ true → eleven h ≡ lowered s → d ≡ added u (eleven h) → Without d w e m → Nearest (HasSums s) w (min e 5) m
 wanted_near w u s d h e b f m l t q us ls te tq eh ed y =
     near w u s d (min e 5) b m l t q us ls (ed ∙ ap (added u) (packed_same s h f ls te tq eh)) (y.whole l)

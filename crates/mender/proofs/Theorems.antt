@@ -1,8 +1,8 @@
 -- The mender's theorems: one word at most fits the sums, and any two answers that its promises allow are equal.
 use mathlib.Core.Path.{◌≡◌, refl, sym, ap, ap₂, ◌∙◌}
-use mathlib.Core.Bool.{Bool, true, false}
 use mathlib.Core.Logic.{⊎_elim}
 use mathlib.Core.List.{List}
+use Rattle.std.specs.Prelude.{Option, Some, None}
 use Prim.Native.Nat.{ℕ, min, ◌+◌, ◌/◌, ◌≤◌}
 use native.Mathlib.Nat.{le_trans, le_of_eq}
 use native.Mathlib.Omega.{arith}
@@ -19,8 +19,7 @@ use Rattle.code.proofs.Distances.{weight_added, distance_comm, triangle, distanc
 use Rattle.code.proofs.Theorems.{one_clean_near}
 use Rattle.code.proofs.Sums.{places, places_good, values_63, power_sum_moment, power_sum_added}
 use Rattle.mender.specs.declared.Mended.{Mended}
-use Rattle.mender.specs.Mender.{Fits, Mends, Word, Nearest, HasSums, NearestWith, NearestClean}
-use Rattle.mender.specs.Inside.{Nothing}
+use Rattle.mender.specs.Mender.{Fits, Mends, Word, Near, Nearest, HasSums, NearestWith, NearestClean}
 use Rattle.mender.specs.Found.{Repairs, Without, Corrects}
 
 -- one word at most fits, where the errors are at most half the sums
@@ -36,15 +35,14 @@ one_fits s c e u v h f g =
     sym (power_sum_moment (58 + k) (added u v) long) ∙ power_sum_added (58 + k) u v same
     ∙ ap₂ sum (sym (f.sums k l)) (sym (g.sums k l)) ∙ Laws.sum_self (get_or s k 0)))
 
--- the parts of an answer fix it
-one_mended : (m n : Mended) → m.found ≡ n.found → m.weight ≡ n.weight → m.first ≡ n.first → m.last ≡ n.last → m.word ≡ n.word → m ≡ n
-one_mended m n p q f t r =
-    ap (λ (b : Bool). whole b m.weight m.first m.last m.word) p
-    ∙ ap₂ (λ (k : ℕ) (w : List ℕ). whole n.found k m.first m.last w) q r
-    ∙ ap₂ (λ (i j : ℕ). whole n.found n.weight i j n.word) f t
+-- the parts of a word that is found fix it
+one_mended : (m n : Mended) → m.weight ≡ n.weight → m.first ≡ n.first → m.last ≡ n.last → m.word ≡ n.word → m ≡ n
+one_mended m n q f t r =
+    ap₂ (λ (k : ℕ) (w : List ℕ). whole k m.first m.last w) q r
+    ∙ ap₂ (λ (i j : ℕ). whole n.weight i j n.word) f t
   where
-    whole : Bool → ℕ → ℕ → ℕ → List ℕ → Mended
-    whole b k i j w = record { found = b; weight = k; first = i; last = j; word = w }
+    whole : ℕ → ℕ → ℕ → List ℕ → Mended
+    whole k i j w = record { weight = k; first = i; last = j; word = w }
 
 -- where the ends of one change are told twice, they are the same
 one_first : (w : List ℕ) {u v : List ℕ} {i j k l : ℕ} → u ≡ v → Ends w u i j → Ends w v k l → i ≡ k
@@ -54,44 +52,28 @@ one_last : (w : List ℕ) {u v : List ℕ} {i j k l : ℕ} → u ≡ v → Ends 
 one_last w z p q = p.to ∙ ap (last_changed w) z ∙ sym q.to
 
 -- any two answers that mending allows are equal
-pub one_mend : (s : List ℕ) (c e : ℕ) (m n : Mended) → Mends s c e m → Mends s c e n → m ≡ n
-one_mend s c e m n p q = by m.found n.found refl refl
-  where
-    by : (a b : Bool) → m.found ≡ a → n.found ≡ b → m ≡ n
-    by true true x y =
-        let z : m.word ≡ n.word = one_fits s (min c 11) (min e (min c 11 / 2)) m.word n.word (omega arith) (p.fits x) (q.fits y) in
-        one_mended m n (x ∙ sym y) (p.weighs x ∙ ap weight z ∙ sym (q.weighs y)) (one_first (replicate 63 0) z (p.ends x) (q.ends y)) (one_last (replicate 63 0) z (p.ends x) (q.ends y)) z
-    by true false x y = absurd (q.none y m.word (p.fits x))
-    by false true x y = absurd (p.none x n.word (q.fits y))
-    by false false x y =
-        one_mended m n (x ∙ sym y) (p.no_weight x ∙ sym (q.no_weight y)) (p.no_first x ∙ sym (q.no_first y)) (p.no_last x ∙ sym (q.no_last y))
-        (p.no_word x ∙ sym (q.no_word y))
+pub one_mend : (s : List ℕ) (c e : ℕ) (m n : Option Mended) → Mends s c e m → Mends s c e n → m ≡ n
+one_mend s c e (Some m) (Some n) p q =
+    let z : m.word ≡ n.word = one_fits s (min c 11) (min e (min c 11 / 2)) m.word n.word (omega arith) p.fits q.fits in
+    ap Some
+    (one_mended m n (p.weighs ∙ ap weight z ∙ sym q.weighs) (one_first (replicate 63 0) z p.ends q.ends) (one_last (replicate 63 0) z p.ends q.ends) z)
+one_mend s c e (Some m) None p q = absurd (q.none m.word p.fits)
+one_mend s c e None (Some n) p q = absurd (p.none n.word q.fits)
+one_mend s c e None None p q = refl
 
 -- any two answers of repairing a word are equal
-one_repair : (s w : List ℕ) (e : ℕ) (m n : Mended) → e ≤ 5 → Repairs s w e m → Repairs s w e n → m ≡ n
-one_repair s w e m n h p q = by m.found n.found refl refl
-  where
-    by : (a b : Bool) → m.found ≡ a → n.found ≡ b → m ≡ n
-    by true true x y =
-        let f = p.repaired x in
-        let g = q.repaired y in
-        let o : f.errors ≡ g.errors = one_fits s 11 e f.errors g.errors (omega arith) f.fits g.fits in
-        let z : m.word ≡ n.word = f.word ∙ ap (added w) o ∙ sym g.word in
-        one_mended m n (x ∙ sym y) (f.weighs ∙ ap weight o ∙ sym g.weighs) (one_first w z f.ends g.ends) (one_last w z f.ends g.ends) z
-    by true false x y = absurd (q.none y (p.repaired x).errors (p.repaired x).fits)
-    by false true x y = absurd (p.none x (q.repaired y).errors (q.repaired y).fits)
-    by false false x y =
-        one_mended m n (x ∙ sym y) (p.no_weight x ∙ sym (q.no_weight y)) (p.no_first x ∙ sym (q.no_first y)) (p.no_last x ∙ sym (q.no_last y))
-        (p.no_word x ∙ sym (q.no_word y))
+one_repair : (s w : List ℕ) (e : ℕ) (m n : Option Mended) → e ≤ 5 → Repairs s w e m → Repairs s w e n → m ≡ n
+one_repair s w e (Some m) (Some n) h p q =
+    let o : p.errors ≡ q.errors = one_fits s 11 e p.errors q.errors (omega arith) p.fits q.fits in
+    let z : m.word ≡ n.word = p.word ∙ ap (added w) o ∙ sym q.word in
+    ap Some (one_mended m n (p.weighs ∙ ap weight o ∙ sym q.weighs) (one_first w z p.ends q.ends) (one_last w z p.ends q.ends) z)
+one_repair s w e (Some m) None h p q = absurd (q.none p.errors p.fits)
+one_repair s w e None (Some n) h p q = absurd (p.none q.errors q.fits)
+one_repair s w e None None h p q = refl
 
-one_nothing : (m n : Mended) → Nothing m → Nothing n → m ≡ n
-one_nothing m n p q =
-    one_mended m n (p.not_found ∙ sym q.not_found) (p.no_weight ∙ sym q.no_weight) (p.no_first ∙ sym q.no_first) (p.no_last ∙ sym q.no_last)
-    (p.no_word ∙ sym q.no_word)
-
-pub one_without : (s w : List ℕ) (e : ℕ) (m n : Mended) → Without s w e m → Without s w e n → m ≡ n
+pub one_without : (s w : List ℕ) (e : ℕ) (m n : Option Mended) → Without s w e m → Without s w e n → m ≡ n
 one_without s w e m n p q =
-    ⊎_elim (λ l. one_repair s w (min e 5) m n (omega arith) (p.whole l) (q.whole l)) (λ d. one_nothing m n (p.other d) (q.other d))
+    ⊎_elim (λ l. one_repair s w (min e 5) m n (omega arith) (p.whole l) (q.whole l)) (λ d. p.other d ∙ sym (q.other d))
     (same_or_not (length w) 63)
 
 -- and any two words with errors added
@@ -99,22 +81,17 @@ pub one_corrected : (w x r s : List ℕ) → Corrects w x r → Corrects w x s �
 one_corrected w x r s p q = ⊎_elim (λ l. p.whole l ∙ sym (q.whole l)) (λ d. p.other d ∙ sym (q.other d)) (same_or_not (length w) 63)
 
 -- any two answers of looking for the nearest word are equal, where one word at most has the property within the distance
-pub one_nearest : (P : List ℕ → Type 0) (w : List ℕ) (e : ℕ) (m n : Mended)
+pub one_nearest : (P : List ℕ → Type 0) (w : List ℕ) (e : ℕ) (m n : Option Mended)
     → (Word w → (u v : List ℕ) → P u → P v → distance w u ≤ e → distance w v ≤ e → u ≡ v) → Nearest P w e m → Nearest P w e n → m ≡ n
-one_nearest P w e m n one p q = by m.found n.found refl refl
+one_nearest P w e (Some m) (Some n) one p q =
+    let z : m.word ≡ n.word = one p.of_word m.word n.word p.is q.is (near m p) (near n q) in
+    ap Some (one_mended m n (p.apart ∙ ap (distance w) z ∙ sym q.apart) (one_first w z p.ends q.ends) (one_last w z p.ends q.ends) z)
   where
-    near : (m : Mended) → Nearest P w e m → m.found ≡ true → distance w m.word ≤ e
-    near m p x = le_trans (le_of_eq (sym (p.apart x))) (p.within x)
-
-    by : (a b : Bool) → m.found ≡ a → n.found ≡ b → m ≡ n
-    by true true x y =
-        let z : m.word ≡ n.word = one (p.of_word x) m.word n.word (p.is x) (q.is y) (near m p x) (near n q y) in
-        one_mended m n (x ∙ sym y) (p.apart x ∙ ap (distance w) z ∙ sym (q.apart y)) (one_first w z (p.ends x) (q.ends y)) (one_last w z (p.ends x) (q.ends y)) z
-    by true false x y = absurd (q.none y (p.of_word x) m.word (p.is x) (near m p x))
-    by false true x y = absurd (p.none x (q.of_word y) n.word (q.is y) (near n q y))
-    by false false x y =
-        one_mended m n (x ∙ sym y) (p.no_weight x ∙ sym (q.no_weight y)) (p.no_first x ∙ sym (q.no_first y)) (p.no_last x ∙ sym (q.no_last y))
-        (p.no_word x ∙ sym (q.no_word y))
+    near : (m : Mended) → Near P w e m → distance w m.word ≤ e
+    near m p = le_trans (le_of_eq (sym p.apart)) p.within
+one_nearest P w e (Some m) None one p q = absurd (q.none p.of_word m.word p.is (le_trans (le_of_eq (sym p.apart)) p.within))
+one_nearest P w e None (Some n) one p q = absurd (p.none q.of_word n.word q.is (le_trans (le_of_eq (sym q.apart)) q.within))
+one_nearest P w e None None one p q = refl
 
 -- two words with the same eleven sums, within five of a word, are one
 pub one_with_sums : (s w u v : List ℕ) → Word w → HasSums s u → HasSums s v → distance w u ≤ 5 → distance w v ≤ 5 → u ≡ v
@@ -130,10 +107,10 @@ one_with_sums s w u v y f g a b =
     (λ k l.
     sym (power_sum_moment (58 + k) (added u v) long) ∙ power_sum_added (58 + k) u v same ∙ ap₂ sum (f.sums k l) (g.sums k l) ∙ Laws.sum_self (get_or s k 0)))
 
-pub one_nearest_with : (s w : List ℕ) (e : ℕ) (m n : Mended) → NearestWith s w e m → NearestWith s w e n → m ≡ n
+pub one_nearest_with : (s w : List ℕ) (e : ℕ) (m n : Option Mended) → NearestWith s w e m → NearestWith s w e n → m ≡ n
 one_nearest_with s w e m n =
     one_nearest (HasSums s) w (min e 5) m n (λ y u v f g a b. one_with_sums s w u v y f g (omega arith) (omega arith))
 
-pub one_nearest_clean : (w : List ℕ) (e : ℕ) (m n : Mended) → NearestClean w e m → NearestClean w e n → m ≡ n
+pub one_nearest_clean : (w : List ℕ) (e : ℕ) (m n : Option Mended) → NearestClean w e m → NearestClean w e n → m ≡ n
 one_nearest_clean w e m n =
     one_nearest Clean w (min e 5) m n (λ y u v f g a b. one_clean_near w u v (min e 5) y.long (omega arith) f g a b)

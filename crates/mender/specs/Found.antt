@@ -1,5 +1,5 @@
 -- What the mender's functions on packed sums promise: no error and one told from the sums, the repaired word, the sixth window.
-use Rattle.std.specs.Prelude.{◌≡◌, true, false, List, ℕ, min, ◌+◌, ◌<◌, length, get_or, replicate, set}
+use Rattle.std.specs.Prelude.{◌≡◌, Option, Some, None, List, ℕ, min, ◌+◌, ◌<◌, length, get_or, replicate, set}
 use Rattle.numbers.specs.Total.{total}
 use Rattle.field.specs.Field.{product}
 use Rattle.lanes.specs.Lanes.{lane}
@@ -8,18 +8,23 @@ use Rattle.code.specs.Word.{power_sum, added}
 use Rattle.code.specs.Inside.{Ends}
 use Rattle.mender.specs.declared.Mended.{Mended}
 use Rattle.mender.specs.declared.Single.{Single}
-use Rattle.mender.specs.Mender.{Fits}
+use Rattle.mender.specs.Mender.{Fits, NoneFits}
 use Rattle.mender.specs.Inside.{Nothing}
 
 -- 63 zeros with one character set
 unfoldable pub lone : ℕ → ℕ → List ℕ
 lone a v = set (replicate 63 0) a v
 
+-- one error that has all eleven sums
+pub record Lone (s : List ℕ) (o : Single) : Type 0 where
+  pub inside : o.address < 63
+  pub some : 0 < o.value
+  pub fits : Fits s 11 1 (lone o.address o.value)
+
 -- where it is found, one error has all eleven sums; where it is not, nothing is said
-pub record OneError (s : List ℕ) (o : Single) : Type 0 where
-  pub inside : o.found ≡ true → o.address < 63
-  pub some : o.found ≡ true → 0 < o.value
-  pub fits : o.found ≡ true → Fits s 11 1 (lone o.address o.value)
+abbrev pub OneError : List ℕ → Option Single → Type 0
+OneError s (Some o) = Lone s o
+OneError s None = Unit {0}
 
 -- the first c of eleven sums are elements
 abbrev pub ElementsTo : List ℕ → ℕ → Type 0
@@ -45,17 +50,13 @@ pub record Repaired (s w : List ℕ) (e : ℕ) (m : Mended) : Type 0 where
   pub word : m.word ≡ added w errors
   pub ends : Ends w m.word m.first m.last
 
--- w without the at most e errors that have these eleven sums; or none do, and zeros stand for it
-pub record Repairs (s w : List ℕ) (e : ℕ) (m : Mended) : Type 0 where
-  pub repaired : m.found ≡ true → Repaired s w e m
-  pub none : m.found ≡ false → (x : List ℕ) → Fits s 11 e x → ⊥
-  pub no_weight : m.found ≡ false → m.weight ≡ 0
-  pub no_first : m.found ≡ false → m.first ≡ 0
-  pub no_last : m.found ≡ false → m.last ≡ 0
-  pub no_word : m.found ≡ false → m.word ≡ replicate 63 0
+-- w without the at most e errors that have these eleven sums; or none do
+abbrev pub Repairs : List ℕ → List ℕ → ℕ → Option Mended → Type 0
+Repairs s w e (Some m) = Repaired s w e m
+Repairs s w e None = NoneFits s 11 e
 
 -- the same within five errors at most, of a word of 63 characters; of another nothing is found
-pub record Without (s w : List ℕ) (e : ℕ) (m : Mended) : Type 0 where
+pub record Without (s w : List ℕ) (e : ℕ) (m : Option Mended) : Type 0 where
   pub whole : length w ≡ 63 → Repairs s w (min e 5) m
   pub other : (length w ≡ 63 → ⊥) → Nothing m
 

@@ -1,5 +1,5 @@
 -- What the mender's inner functions promise each other: rows of coefficients that combine the sums to 0, and the values at the places.
-use Rattle.std.specs.Prelude.{◌≡◌, false, cond, ◌⊎◌, List, [], ℕ, ◌+◌, ◌-◌, ◌<◌, eqb, length, get_or, replicate}
+use Rattle.std.specs.Prelude.{◌≡◌, Option, None, cond, ◌⊎◌, List, [], ℕ, ◌+◌, ◌-◌, ◌<◌, eqb, length, get_or}
 use Rattle.numbers.specs.Total.{total}
 use Rattle.field.specs.Field.{product, α, power}
 use Rattle.field.specs.Inside.{inverse}
@@ -51,9 +51,5 @@ pub record ValuedFrom (p s w : List ℕ) (n : ℕ) : Type 0 where
   pub entry : (l : ℕ) → l < n → get_or w (62 - l) 0 ≡ value_of p s (power α l)
 
 -- no word was found
-pub record Nothing (m : Mended) : Type 0 where
-  pub not_found : m.found ≡ false
-  pub no_weight : m.weight ≡ 0
-  pub no_first : m.first ≡ 0
-  pub no_last : m.last ≡ 0
-  pub no_word : m.word ≡ replicate 63 0
+abbrev pub Nothing : Option Mended → Type 0
+Nothing m = m ≡ None

@@ -1,5 +1,5 @@
 -- What the functions on packed rows promise each other: a row is one number, with what it combines the windows to, and its coefficients, in its lanes.
-use Rattle.std.specs.Prelude.{◌≡◌, cond, List, ℕ, ◌+◌, ◌-◌, ◌*◌, ◌/◌, ◌%◌, ◌^◌, ◌<◌, ◌≤◌, ltb, length, get_or}
+use Rattle.std.specs.Prelude.{◌≡◌, Option, Some, None, cond, List, ℕ, ◌+◌, ◌-◌, ◌*◌, ◌/◌, ◌%◌, ◌^◌, ◌<◌, ◌≤◌, ltb, length, get_or}
 use Rattle.std.specs.Int.Bits.{bit_xor}
 use Rattle.field.specs.Field.{product}
 use Rattle.field.specs.Inside.{inverse}
@@ -19,11 +19,20 @@ pub record UnitRows (q n : ℕ) (x : List ℕ) : Type 0 where
   pub row : (i : ℕ) → i < n → get_or x i 0 ≡ q / 64 ^ i % 64 ^ 5 + 64 ^ i * 64 ^ 5
   pub none : (i : ℕ) → n ≤ i → get_or x i 0 ≡ 0
 
--- the first row that window j does not combine to 0, or 6
-pub record PivotRow (x : List ℕ) (j r : ℕ) : Type 0 where
-  pub small : r ≤ 6
+-- row r is the first that window j does not combine to 0
+pub record Pivot (x : List ℕ) (j r : ℕ) : Type 0 where
+  pub small : r < 6
   pub before : (i : ℕ) → i < r → lane (get_or x i 0) j ≡ 0
-  pub here : r < 6 → 0 < lane (get_or x r 0) j
+  pub here : 0 < lane (get_or x r 0) j
+
+-- window j combines each row to 0
+pub record NoPivot (x : List ℕ) (j : ℕ) : Type 0 where
+  pub none : (i : ℕ) → i < 6 → lane (get_or x i 0) j ≡ 0
+
+-- the first row that window j does not combine to 0, if there is one
+abbrev pub PivotRow : List ℕ → ℕ → Option ℕ → Type 0
+PivotRow x j (Some r) = Pivot x j r
+PivotRow x j None = NoPivot x j
 
 -- ten lanes times each of 0 to 7
 pub record Multiples (a : ℕ) (r : List ℕ) : Type 0 where
@@ -49,11 +58,20 @@ pub record RowsHold (s : List ℕ) (e n : ℕ) (x : List ℕ) : Type 0 where
 pub record RowsFrom (q e n : ℕ) (x : List ℕ) : Type 0 where
   pub hold : (s : List ℕ) → SumsIn q s → RowsHold s e n x
 
--- the first row that is not 0, or 6
-pub record FirstRow (x : List ℕ) (r : ℕ) : Type 0 where
-  pub small : r ≤ 6
+-- row r is the first that is not 0
+pub record First (x : List ℕ) (r : ℕ) : Type 0 where
+  pub small : r < 6
   pub before : (i : ℕ) → i < r → get_or x i 0 ≡ 0
-  pub here : r < 6 → get_or x r 0 ≡ 0 → ⊥
+  pub here : get_or x r 0 ≡ 0 → ⊥
+
+-- each row is 0
+pub record NoRow (x : List ℕ) : Type 0 where
+  pub none : (i : ℕ) → i < 6 → get_or x i 0 ≡ 0
+
+-- the first row that is not 0, if there is one
+abbrev pub FirstRow : List ℕ → Option ℕ → Type 0
+FirstRow x (Some r) = First x r
+FirstRow x None = NoRow x
 
 -- the coefficients of a row
 pub record Coefficients (x : ℕ) (r : List ℕ) : Type 0 where

@@ -9,7 +9,7 @@ use Rattle.polynomial.specs.Polynomial.{poly_at}
 use Rattle.code.specs.Word.{nowhere, listed}
 use Rattle.code.specs.Inside.{Ends}
 use Rattle.mender.specs.declared.values.Ahead.{Ahead}
-use Rattle.mender.specs.declared.values.Pattern.{Pattern}
+use Rattle.mender.specs.declared.Mended.{Mended}
 use Rattle.mender.specs.Inside.{mixed, coef, ValuedFrom}
 
 -- ---- the roots from a place on
@@ -113,7 +113,7 @@ unfoldable pub last_of : ℕ → ℕ → ℕ
 last_of last address = cond (eqb last nowhere) address last
 
 -- the quotient at each root, 0 at every other place, how many are not 0, and the first and the last of them
-pub record Placed (roots f n : ℕ) (r : Pattern) : Type 0 where
+pub record Placed (roots f n : ℕ) (r : Mended) : Type 0 where
   pub long : length r.word ≡ 63
   pub set : (l : ℕ) → l < 63 → roots / 2 ^ l % 2 ≡ 1 → get_or r.word (62 - l) 0 ≡ quotient_at f n (power α l)
   pub clear : (l : ℕ) → l < 63 → roots / 2 ^ l % 2 ≡ 0 → get_or r.word (62 - l) 0 ≡ 0
@@ -128,7 +128,7 @@ pub record Kills (p s : List ℕ) (n : ℕ) : Type 0 where
   pub window : (j : ℕ) → j < n → mixed (coef p) s j ≡ 0
 
 -- the characters are the values at their places, counted, with the first and the last that is not 0
-pub record Patterned (p s : List ℕ) (r : Pattern) : Type 0 where
+pub record Patterned (p s : List ℕ) (r : Mended) : Type 0 where
   pub valued : ValuedFrom p s r.word 63
   pub weighs : r.weight ≡ weight r.word
   pub ends : Ends (replicate 63 0) r.word r.first r.last

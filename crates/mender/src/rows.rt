@@ -4,7 +4,6 @@ ghost use Rattle.std.specs.Prelude.{◌≡◌, suc, min, ◌^◌, ◌<◌, ◌�
 ghost use Rattle.lanes.specs.Lanes.{lane};
 ghost use Rattle.mender.specs.Rows.{UnitRows, PivotRow, Multiples, RowsCleared, RowsFrom, FirstRow, Coefficients};
 
-use super::least;
 use lanes::{FIVE_LANES, FOUR_LANES, TEN_LANES};
 
 // The polynomials of degree at most e that combine n windows of the sums to 0, five windows at most, packed.
@@ -12,16 +11,12 @@ pub fn spanned_rows(sums: u64, e: usize, n: usize) -> [u64; 6]
     requires { e ≤ 5 }
     ensures { RowsFrom sums e (min n 5) result }
 {
-    let most = least(n, 5);
     let mut x = unit_rows(sums, e);
-    let mut j: usize = 0;
-    while j < most {
-        let p = pivot_row(x, j);
-        if p < 6 {
-            let t = row_cleared(x, j, p);
-            x = t;
+    for j in 0..n.min(5) {
+        if let Some(p) = pivot_row(x, j) {
+            let cleared = row_cleared(x, j, p);
+            x = cleared;
         }
-        j += 1;
     }
     x
 }
@@ -34,29 +29,20 @@ fn unit_rows(sums: u64, e: usize) -> [u64; 6]
     let mut x = [0u64; 6];
     let mut q = sums;
     let mut one: u64 = FOUR_LANES;
-    let mut i: usize = 0;
-    while i <= e {
-        one = one * 64;
+    for i in 0..e + 1 {
+        one *= 64;
         x[i] = q % FIVE_LANES + one;
-        q = q / 64;
-        i += 1;
+        q /= 64;
     }
     x
 }
 
-// The first row that window j does not combine to 0, or 6.
-fn pivot_row(x: [u64; 6], j: usize) -> usize
+// The first row that window j does not combine to 0.
+fn pivot_row(x: [u64; 6], j: usize) -> Option<usize>
     requires { j < 10 }
     ensures { PivotRow x j result }
 {
-    let mut i: usize = 0;
-    while i < 6 {
-        if lane_of(x[i], j) != 0 {
-            return i;
-        }
-        i += 1;
-    }
-    6
+    x.iter().position(|row| lane_of(*row, j) != 0)
 }
 
 // Each row after row p and the multiple of row p with which it combines window j to 0; row p itself becomes 0.
@@ -69,11 +55,9 @@ fn row_cleared(mut x: [u64; 6], j: usize, p: usize) -> [u64; 6]
     let a = y % TEN_LANES;
     let low = multiples(a);
     let high = multiples(lanes::scale(a, 8));
-    let mut i = p + 1;
-    while i < 6 {
+    for i in p + 1..6 {
         let f = lanes::times(inverse, lane_of(x[i], j));
-        x[i] = x[i] ^ low[(f % 8) as usize] ^ high[(f / 8) as usize];
-        i += 1;
+        x[i] = x[i] ^ low[usize::from(f % 8)] ^ high[usize::from(f / 8)];
     }
     x[p] = 0;
     x
@@ -98,18 +82,11 @@ pub fn lane_of(x: u64, j: usize) -> u8
     ((x >> (6 * j)) % 64) as u8
 }
 
-// The first row that is not 0, or 6.
-pub fn first_row(x: [u64; 6]) -> usize
+// The first row that is not 0.
+pub fn first_row(x: [u64; 6]) -> Option<usize>
     ensures { FirstRow x result }
 {
-    let mut i: usize = 0;
-    while i < 6 {
-        if x[i] != 0 {
-            return i;
-        }
-        i += 1;
-    }
-    6
+    x.iter().position(|row| *row != 0)
 }
 
 // The coefficients of a row.
@@ -118,11 +95,9 @@ pub fn coefficients(x: u64) -> [u8; 6]
 {
     let mut p = [0u8; 6];
     let mut q = x / FIVE_LANES;
-    let mut k: usize = 0;
-    while k < 6 {
-        p[k] = (q % 64) as u8;
-        q = q / 64;
-        k += 1;
+    for c in p.iter_mut() {
+        *c = (q % 64) as u8;
+        q /= 64;
     }
     p
 }

@@ -5,17 +5,16 @@ ghost use Rattle.mender.specs.Values.{Patterned, Placed, PlacesFrom, QuotientsIn
 ghost use Rattle.sums.specs.Held.{eleven};
 
 use super::rows::lane_of;
-use super::{NOWHERE, least};
+use super::{Mended, NOWHERE};
 use lanes::{FIVE_LANES, FIVE_ONES, FOUR_LANES, SIX_LANES, THREE_LANES, TWO_LANES};
 use sums::Sums;
 
-// A pattern of errors, how many of its characters are not 0, and the first and the last address of these.
+// Two polynomials whose quotient at a root is the value there, numerator and denominator side by side, and how many windows the locator combines to 0.
 #[derive(Clone, Copy)]
-pub struct Pattern {
-    pub word: [u8; 63],
-    pub weight: u8,
-    pub first: u8,
-    pub last: u8,
+struct Ratio {
+    sides: u64,
+    windows: usize,
+    ghost few: { windows ≤ 5 },
 }
 
 // Values at the next roots, in lanes, the nearest lowest: so many are left.
@@ -27,7 +26,7 @@ struct Ahead {
 
 // The values at the roots of the locator p, the coefficients of a row that combines the first n windows to 0: the place of address 62 - l is α^l.
 // No other place has a value.
-pub fn values_at_roots(row: u64, p: [u8; 6], s: Sums, n: usize) -> Pattern
+pub fn values_at_roots(row: u64, p: [u8; 6], s: Sums, n: usize) -> Mended
     requires coefficients { Coefficients row p }
     requires kills { Kills p (eleven s) n }
     ensures { Patterned p (eleven s) result }
@@ -35,15 +34,13 @@ pub fn values_at_roots(row: u64, p: [u8; 6], s: Sums, n: usize) -> Pattern
     placed(
         planes::roots(p),
         fraction(row / FIVE_LANES % SIX_LANES, s.first, n),
-        n,
     )
 }
 
 // The value of the fraction f at each root, five at a time, and 0 at every other place. The roots come from the last address down, so the first value
 // that is not 0 stands last.
-fn placed(roots: u64, f: u64, n: usize) -> Pattern
-    requires { n ≤ 5 }
-    ensures { Placed roots f n result }
+fn placed(roots: u64, f: Ratio) -> Mended
+    ensures { Placed roots f.sides f.windows result }
 {
     let mut w = [0u8; 63];
     let mut count: u8 = 0;
@@ -52,8 +49,9 @@ fn placed(roots: u64, f: u64, n: usize) -> Pattern
     let mut values: u64 = 0;
     let mut left: usize = 0;
     let mut l = planes::first_from(roots, 0);
+    // a while: from root to root
     while l < 63 {
-        let ahead = looked_ahead(Ahead { values, left }, f, n, roots, l);
+        let ahead = looked_ahead(Ahead { values, left }, f, roots, l);
         let v = (ahead.values % 64) as u8;
         w[62 - l] = v;
         if v != 0 {
@@ -63,14 +61,13 @@ fn placed(roots: u64, f: u64, n: usize) -> Pattern
         }
         values = ahead.values / 64;
         left = ahead.left - 1;
-        let after = planes::first_from(roots, l + 1);
-        l = after;
+        l = planes::first_from(roots, l + 1);
     }
-    Pattern {
-        word: w,
+    Mended {
         weight: count,
         first,
         last,
+        word: w,
     }
 }
 
@@ -85,15 +82,15 @@ fn last_of(last: u8, address: u8) -> u8
 }
 
 // The values at the next roots from l on: those of the next five where none is left. A locator that is not 0 has no more.
-fn looked_ahead(ahead: Ahead, f: u64, n: usize, roots: u64, l: usize) -> Ahead
-    requires n_bound { (n ≤ 5) × (l ≤ 63) }
-    requires quotients_ahead { QuotientsAhead f n roots l ahead }
-    ensures { QuotientNext f n roots l result }
+fn looked_ahead(ahead: Ahead, f: Ratio, roots: u64, l: usize) -> Ahead
+    requires inside { l ≤ 63 }
+    requires quotients_ahead { QuotientsAhead f.sides f.windows roots l ahead }
+    ensures { QuotientNext f.sides f.windows roots l result }
 {
     if ahead.left > 0 {
         return ahead;
     }
-    let values = quotients(f, n, places_from(roots, l));
+    let values = quotients(f, places_from(roots, l));
     Ahead { values, left: 5 }
 }
 
@@ -104,23 +101,24 @@ fn places_from(roots: u64, l: usize) -> u64
 {
     let mut x: u64 = 0;
     let mut at = l;
-    let mut i: usize = 0;
-    while i < 5 {
-        x = x / 64 + places::power_of(at as u8) as u64 * FOUR_LANES;
-        let after = planes::first_from(roots, least(at + 1, 63));
-        at = after;
-        i += 1;
+    for _i in 0..5usize {
+        x = x / 64 + u64::from(places::power_of(at as u8)) * FOUR_LANES;
+        at = planes::first_from(roots, (at + 1).min(63));
     }
     x
 }
 
 // The values at five places: numerator by denominator, and once more times the place for each window of five that the locator may not combine to 0.
-fn quotients(f: u64, n: usize, x: u64) -> u64
-    requires { (n ≤ 5) × (x < 64 ^ 5) }
-    ensures { QuotientsIn f n x result }
+fn quotients(f: Ratio, x: u64) -> u64
+    requires { x < 64 ^ 5 }
+    ensures { QuotientsIn f.sides f.windows x result }
 {
-    let both = both_at(f, x);
-    raised(lanes::products(both, inverses(both / FIVE_LANES)), x, n)
+    let both = both_at(f.sides, x);
+    raised(
+        lanes::products(both, inverses(both / FIVE_LANES)),
+        x,
+        f.windows,
+    )
 }
 
 // Numerator and denominator at five places, side by side, from the highest coefficient down.
@@ -130,9 +128,7 @@ fn both_at(f: u64, x: u64) -> u64
 {
     let twice = x + x * FIVE_LANES;
     let mut r: u64 = 0;
-    let mut m: usize = 5;
-    while m > 0 {
-        m -= 1;
+    for m in (0..5).rev() {
         r = lanes::products(twice, r) ^ spread(f, m);
     }
     r
@@ -153,11 +149,9 @@ fn inverses(d: u64) -> u64
 {
     let mut r: u64 = 0;
     let mut q = d;
-    let mut i: usize = 0;
-    while i < 5 {
-        r = r / 64 + inverse_or_none((q % 64) as u8) as u64 * FOUR_LANES;
-        q = q / 64;
-        i += 1;
+    for _i in 0..5usize {
+        r = r / 64 + u64::from(inverse_or_none((q % 64) as u8)) * FOUR_LANES;
+        q /= 64;
     }
     r
 }
@@ -180,20 +174,22 @@ fn raised(v: u64, x: u64, n: usize) -> u64
     ensures { Raised v x n result }
 {
     let mut r = v;
-    let mut k = n;
-    while k < 5 {
+    for _k in n..5 {
         r = lanes::products(x, r);
-        k += 1;
     }
     r
 }
 
 // The fraction whose value at a root of the locator q is the error's: numerator and denominator, side by side.
-fn fraction(q: u64, sums: u64, n: usize) -> u64
+fn fraction(q: u64, sums: u64, n: usize) -> Ratio
     requires { n ≤ 5 }
-    ensures { FractionIn q (lanes_of sums) n result }
+    ensures windows { result.windows ≡ n }
+    ensures sides { FractionIn q (lanes_of sums) n result.sides }
 {
-    numerator(q, sums, n) + denominator(q) * FIVE_LANES
+    Ratio {
+        sides: numerator(q, sums, n) + denominator(q) * FIVE_LANES,
+        windows: n,
+    }
 }
 
 // The numerator: its coefficient m has the locator's coefficients from m + 1 on, each times its turn's sum, of the sums from n on.
@@ -203,9 +199,7 @@ fn numerator(q: u64, sums: u64, n: usize) -> u64
 {
     let from = sums >> (6 * n);
     let mut c: u64 = 0;
-    let mut k: usize = 5;
-    while k > 0 {
-        k -= 1;
+    for k in (0..5).rev() {
         c = (c ^ lanes::scale(q, lane_of(from, k))) / 64;
     }
     c % FIVE_LANES

@@ -1,7 +1,7 @@
 -- A `match` on a number, an arm for each number from some number on and `_` for what is left: what the last arm is told.
 use mathlib.Core.Path.{◌≡◌, sym}
 use mathlib.Core.Logic.{⊎_elim}
-use Prim.Native.Nat.{ℕ, zero, suc, ◌+◌, ◌%◌, ◌<◌, ◌≤◌}
+use Prim.Native.Nat.{ℕ, zero, suc, ◌+◌, ◌<◌, ◌≤◌}
 use native.Mathlib.Nat.{eq-or-lt_of_le}
 use native.Mathlib.Omega.{arith}
 
@@ -20,11 +20,3 @@ none_from k (suc n) x b h = let l : n + k ≤ x = none_from k n x b h.0 in ⊎_e
 
 pub none_below : (n x : ℕ) → NoneBelow n x → n ≤ x
 none_below n x h = omega (arith, none_from 0 n x (omega arith) h)
-
--- of the low six bits none but 63 is left
-pub last_of_64 : (u : ℕ) → NoneBelow 63 (u % 64) → u % 64 ≡ 63
-last_of_64 u h = let l : 63 ≤ u % 64 = none_from 0 63 (u % 64) (omega arith) h in omega arith
-
--- where they are not 0, and 1 to 63 have arms, nothing is left
-pub none_left : (u : ℕ) → 0 < u % 64 → NoneFrom 1 63 (u % 64) → ⊥
-none_left u p h = let l : 64 ≤ u % 64 = none_from 1 63 (u % 64) p h in omega arith

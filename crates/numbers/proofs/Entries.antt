@@ -1,11 +1,12 @@
 -- A test that the checker computes at every entry of a list, and the law that it gives at each.
-use mathlib.Core.Path.{sym, subst}
-use mathlib.Core.Bool.{Bool, true}
+use mathlib.Core.Path.{◌≡◌, sym, subst}
+use mathlib.Core.Bool.{Bool, true, false, cond}
 use mathlib.Core.List.{List, [], ◌∷◌}
 use Prim.Native.Nat.{ℕ, zero, suc, ◌<◌}
 use native.Mathlib.Nat.{not-suc-le-zero, le_of_suc-le-suc}
 use lib.Dec.{T, eqb, eqb→eq}
 use lib.ListN.{length, get_or}
+use Rattle.std.proofs.lemmas.Bool.{false≢true}
 use Rattle.numbers.proofs.Range.{both, both_left, both_right}
 
 module _ {A : Type 0} where
@@ -27,3 +28,8 @@ module _ {A : Type 0} where
   full_at n f d xs t k h =
       every-at f d xs (both_right (eqb (length xs) n) (every f xs) t) k
       (subst (λ (m : ℕ). k < m) (sym (eqb→eq (length xs) n (both_left (eqb (length xs) n) (every f xs) t))) h)
+
+-- of two tests the second, where what chooses between them does not hold
+pub unless : (b s t : Bool) → b ≡ false → T (cond b s t) → T t
+unless true s t e h = absurd (false≢true (sym e))
+unless false s t e h = h

@@ -1,9 +1,10 @@
 -- The laws of rooms: what filling one and replacing a character in one leave in it, and what putting it back into the tray leaves of the tray.
-use mathlib.Core.Path.{◌≡◌, refl, sym, ap, ap₂, ◌∙◌}
+use mathlib.Core.Path.{◌≡◌, refl, sym, ap, ap₂, ◌∙◌, subst}
 use mathlib.Core.Logic.{◌⊎◌, inl, inr}
 use mathlib.Core.List.{List, [], ◌++◌, append-nil}
 use Prim.Native.Nat.{ℕ, ◌+◌, ◌-◌, ◌*◌, ◌<◌, ◌≤◌}
 use native.Mathlib.Omega.{arith}
+use borrow.Rule.Slice.PartMut.{put_mid}
 use lib.Bits.{bit_xor}
 use lib.ListN.{length, get_or, set, take, drop, length-append, length-drop, length-set, drop_of_length-le}
 use lib.Seq.{take_all, take_at, length-take-le, take-set-lt, drop-set-lt, take-set-le, drop-set-add, get_or-set_same, get_or-set_other, get_or-drop}
@@ -37,27 +38,16 @@ pub sums_told : (x : List ℕ) (n : ℕ) → length x ≡ 74 → n ≡ wrong (ta
 sums_told x n long e = e ∙ ap wrong (whole-end x long)
 
 -- a line is copied over the first 63 bytes, and sums over the others
-pub filled : (r line sums x last : List ℕ) → length r ≡ 74 → length line ≡ 63 → length sums ≡ 11
-    → x ≡ take (length line) line ++ drop (length line) r
-    → last ≡ take (length sums) sums ++ drop (length sums) (take (length x - 63) (drop 63 x))
-    → take 63 x ++ (last ++ drop (length x - 63) (drop 63 x)) ≡ line ++ sums
-filled r line sums x last hr hl hs ex el = after_63 x long last ∙ ap₂ ◌++◌ first second
+pub filled : (r line sums first last : List ℕ) → length r ≡ 74 → length line ≡ 63 → first ≡ line → last ≡ sums
+    → put_mid 63 (length (first ++ drop 63 r) - 63) (first ++ drop 63 r) last ≡ line ++ sums
+filled r line sums first last hr hl ef el =
+    after_63 (first ++ drop 63 r) long last ∙ ap₂ ◌++◌ (take_at first (drop 63 r) 63 front ∙ ef) el
   where
-    joined : x ≡ line ++ drop 63 r
-    joined = ex ∙ ap₂ ◌++◌ (take_all (length line) line (omega arith)) (ap (λ (n : ℕ). drop n r) hl)
+    front : length first ≡ 63
+    front = ap length ef ∙ hl
 
-    long : length x ≡ 74
-    long = ap length joined ∙ length-append line (drop 63 r) ∙ omega (arith, length-drop 63 r)
-
-    first : take 63 x ≡ line
-    first = ap (take 63) joined ∙ take_at line (drop 63 r) 63 hl
-
-    second : last ≡ sums
-    second =
-        el
-        ∙ ap₂ ◌++◌ (take_all (length sums) sums (omega arith))
-        (ap (drop (length sums)) (whole-end x long) ∙ drop_of_length-le (drop 63 x) {i = length sums} (omega (arith, end-long x long)))
-        ∙ append-nil sums
+    long : length (first ++ drop 63 r) ≡ 74
+    long = length-append first (drop 63 r) ∙ omega (arith, length-drop 63 r, front)
 
 -- where the sums stand once a character is replaced
 module _ (r : List ℕ) (a c : ℕ) (long : length r ≡ 74) where
@@ -87,15 +77,23 @@ replaced_room r last a c hr ha e =
     long : length (set r a c) ≡ 74
     long = length-set r a c ∙ hr
 
+-- where the address is told by an equal number, n
+pub replaced_at : (r last : List ℕ) (a c n : ℕ) → n ≡ a → length r ≡ 74 → a ≤ 62
+    → last ≡ with_shares a (bit_xor (get_or r n 0) c) (take (length (set r n c) - 63) (drop 63 (set r n c)))
+    → take 63 (set r n c) ++ (last ++ drop (length (set r n c) - 63) (drop 63 (set r n c))) ≡ replaced_in r a c
+replaced_at r last a c n e hr ha =
+    subst (λ (k : ℕ). last ≡ with_shares a (bit_xor (get_or r k 0) c) (take (length (set r k c) - 63) (drop 63 (set r k c)))
+    → take 63 (set r k c) ++ (last ++ drop (length (set r k c) - 63) (drop 63 (set r k c))) ≡ replaced_in r a c) (sym e) (replaced_room r last a c hr ha)
+
 pub replaced_room_long : (r : List ℕ) (a c : ℕ) → length r ≡ 74 → length (replaced_in r a c) ≡ 74
 replaced_room_long r a c hr =
     length-append (set (take 63 r) a c) (with_shares a (sum (get_or r a 0) c) (drop 63 r))
     ∙ ap₂ ◌+◌ (length-set (take 63 r) a c ∙ length-take-le 63 r (omega arith)) (with_shares_long a (sum (get_or r a 0) c) (drop 63 r))
 
-pub replaced_same_long : (r last : List ℕ) (a c : ℕ) → length r ≡ 74 → a ≤ 62
-    → last ≡ with_shares a (bit_xor (get_or r a 0) c) (take (length (set r a c) - 63) (drop 63 (set r a c)))
-    → length (take 63 (set r a c) ++ (last ++ drop (length (set r a c) - 63) (drop 63 (set r a c)))) ≡ length r
-replaced_same_long r last a c hr ha e = ap length (replaced_room r last a c hr ha e) ∙ replaced_room_long r a c hr ∙ sym hr
+pub replaced_same_long : (r last : List ℕ) (a c n : ℕ) → n ≡ a → length r ≡ 74 → a ≤ 62
+    → last ≡ with_shares a (bit_xor (get_or r n 0) c) (take (length (set r n c) - 63) (drop 63 (set r n c)))
+    → length (take 63 (set r n c) ++ (last ++ drop (length (set r n c) - 63) (drop 63 (set r n c)))) ≡ length r
+replaced_same_long r last a c n same hr ha e = ap length (replaced_at r last a c n same hr ha e) ∙ replaced_room_long r a c hr ∙ sym hr
 
 -- ---- a room of a tray
 

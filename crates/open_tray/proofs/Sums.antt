@@ -1,12 +1,17 @@
 -- The turns of the loops over a line's sums: whether all are 0, and the share of a change added to each; and the sums of a line worked out afresh.
 use mathlib.Core.Path.{◌≡◌, refl, sym, ap, ap₂, ◌∙◌}
+use mathlib.Core.Bool.{Bool, false, not}
 use mathlib.Core.List.{List, [], ◌∷◌}
 use Prim.Native.Nat.{ℕ, zero, suc, ◌+◌, ◌-◌, ◌*◌, ◌%◌, ◌<◌, ◌≤◌}
-use native.Mathlib.Nat.{le_of_suc-le-suc, not-suc-le-zero, suc-mul, mod-lt, zero-lt-suc}
+use native.Mathlib.Nat.{suc-mul, mod-lt, zero-lt-suc}
 use native.Mathlib.Omega.{arith}
 use borrow.Author.Count.{below_none, below_more}
 use lib.Bits.{bit_xor}
-use lib.ListN.{length, get_or, set, drop, length-set, drop_of_length-le}
+use lib.Dec.{eqb}
+use Rattle.std.proofs.lemmas.Bool.Decides.{nat_tests}
+use Rattle.std.specs.Int.{from_bool}
+use Rattle.std.specs.List.{list_any}
+use lib.ListN.{length, get_or, set, length-set}
 use lib.Seq.{get_or-set_same, get_or-set_other, ext_get_or}
 use Rattle.field.specs.Field.{sum, product, α, power}
 use Rattle.field.proofs.Laws as Laws
@@ -27,39 +32,14 @@ wrong_most [] = omega arith
 wrong_most (zero ∷ s) = wrong_most s
 wrong_most (suc x ∷ s) = omega arith
 
-passed_zero : (s : List ℕ) (k : ℕ) → k < length s → get_or s k 0 ≡ 0 → wrong (drop k s) ≡ wrong (drop (suc k) s)
+any_wrong : (s : List ℕ) → from_bool (list_any (λ x. not (eqb x 0)) s) ≡ wrong s
 unfolding wrong
-passed_zero [] k h e = absurd (not-suc-le-zero h)
-passed_zero (zero ∷ s) zero h e = refl
-passed_zero (suc x ∷ s) zero h e = absurd (omega arith)
-passed_zero (x ∷ s) (suc k) h e = passed_zero s k (le_of_suc-le-suc h) e
+any_wrong [] = refl
+any_wrong (zero ∷ s) = any_wrong s
+any_wrong (suc x ∷ s) = let e : eqb (suc x) 0 ≡ false = grind (arith, nat_tests) in rw e refl
 
-met_one : (s : List ℕ) (k : ℕ) → k < length s → (get_or s k 0 ≡ 0 → ⊥) → wrong (drop k s) ≡ 1
-unfolding wrong
-met_one [] k h e = absurd (not-suc-le-zero h)
-met_one (zero ∷ s) zero h e = absurd (e refl)
-met_one (suc x ∷ s) zero h e = refl
-met_one (x ∷ s) (suc k) h e = met_one s k (le_of_suc-le-suc h) e
-
--- the first k are 0
-pub record ZeroTo (s : List ℕ) (k : ℕ) : Type 0 where
-  pub most : k ≤ length s
-  pub rest : wrong s ≡ wrong (drop k s)
-
-pub zero_none : (s : List ℕ) → ZeroTo s 0
-zero_none s = record { most = omega arith; rest = refl }
-
-pub zero_again : (s : List ℕ) (k : ℕ) → ZeroTo s k → k < length s → get_or s k 0 ≡ 0 → ZeroTo s (k + 1)
-zero_again s k z h e =
-    let f : suc k ≡ k + 1 = omega arith in
-    record { most = omega arith; rest = z.rest ∙ passed_zero s k h e ∙ ap (λ (n : ℕ). wrong (drop n s)) f }
-
-pub zero_not : (s : List ℕ) (k : ℕ) → ZeroTo s k → k < length s → (get_or s k 0 ≡ 0 → ⊥) → 1 ≡ wrong s
-zero_not s k z h e = sym (z.rest ∙ met_one s k h e)
-
-pub zero_all : (s : List ℕ) (k : ℕ) → ZeroTo s k → length s ≤ k → 0 ≡ wrong s
-unfolding wrong
-zero_all s k z h = sym (z.rest ∙ ap wrong (drop_of_length-le s h))
+pub some_wrong : (s : List ℕ) (b : Bool) → b ≡ list_any (λ x. not (eqb x 0)) s → from_bool b ≡ wrong s
+some_wrong s b e = ap from_bool e ∙ any_wrong s
 
 -- ---- the share of a change added to each
 

@@ -4,12 +4,10 @@ use mathlib.Core.List.{List, [], ◌∷◌}
 use Prim.Native.Nat.{ℕ, zero, suc, ◌<◌}
 use native.Mathlib.Omega.{arith}
 use lib.ListN.{length, get_or}
+use Rattle.std.specs.Prelude.{Result, Ok, Err}
+use Rattle.refusal.specs.declared.Refusal.{Refusal}
 use Rattle.refusal.proofs.Laws.{refusal_positive, one_refusal, passed, Passed}
 use Rattle.refusal.proofs.Theorems.{one_result, one_reply}
-use Rattle.open_tray.specs.declared.TrayEdit.{TrayEdit}
-use Rattle.open_tray.specs.declared.TrayEdit.TheVariants as E
-use Rattle.open_tray.specs.declared.TrayCount.{TrayCount}
-use Rattle.open_tray.specs.declared.TrayCount.TheVariants as C
 use Rattle.open_tray.specs.Tray.{room, characters_at, sums_at, held, count, fresh_sums, Fit}
 use Rattle.open_tray.specs.Promises.{edit_numbers, count_numbers, add_tests, Added, Adds, replace_tests, Replaced, Replaces, last_line, drop_tests, Dropped, Drops, ask_tests, Asks}
 use Rattle.open_tray.proofs.Results.{one_edited, rooms_kept, left_alone}
@@ -19,17 +17,17 @@ use Rattle.open_tray.proofs.Results.{one_edited, rooms_kept, left_alone}
 first : {m n : ℕ} {f g : List ℕ} → m ∷ f ≡ n ∷ g → m ≡ n
 first e = ap (λ (l : List ℕ). get_or l 0 0) e
 
-pub one_edit_answer : (a b : TrayEdit) → edit_numbers a ≡ edit_numbers b → a ≡ b
-one_edit_answer E.Done E.Done e = refl
-one_edit_answer E.Done (E.Refused s) e = absurd (refusal_positive s (sym (first e)))
-one_edit_answer (E.Refused r) E.Done e = absurd (refusal_positive r (first e))
-one_edit_answer (E.Refused r) (E.Refused s) e = ap E.Refused (one_refusal r s (first e))
+pub one_edit_answer : (a b : Result Unit Refusal) → edit_numbers a ≡ edit_numbers b → a ≡ b
+one_edit_answer (Ok _) (Ok _) e = refl
+one_edit_answer (Ok _) (Err s) e = absurd (refusal_positive s (sym (first e)))
+one_edit_answer (Err r) (Ok _) e = absurd (refusal_positive r (first e))
+one_edit_answer (Err r) (Err s) e = ap Err (one_refusal r s (first e))
 
-pub one_count_answer : (a b : TrayCount) → count_numbers a ≡ count_numbers b → a ≡ b
-one_count_answer (C.Wrong m) (C.Wrong n) e = ap C.Wrong (ap (λ (l : List ℕ). get_or l 1 0) e)
-one_count_answer (C.Wrong m) (C.Refused s) e = absurd (refusal_positive s (sym (first e)))
-one_count_answer (C.Refused r) (C.Wrong n) e = absurd (refusal_positive r (first e))
-one_count_answer (C.Refused r) (C.Refused s) e = ap C.Refused (one_refusal r s (first e))
+pub one_count_answer : (a b : Result ℕ Refusal) → count_numbers a ≡ count_numbers b → a ≡ b
+one_count_answer (Ok m) (Ok n) e = ap Ok (ap (λ (l : List ℕ). get_or l 1 0) e)
+one_count_answer (Ok m) (Err s) e = absurd (refusal_positive s (sym (first e)))
+one_count_answer (Err r) (Ok n) e = absurd (refusal_positive r (first e))
+one_count_answer (Err r) (Err s) e = ap Err (one_refusal r s (first e))
 
 -- of a tray that passed the tests, wherever this one stands among them
 whole_of : (t : List ℕ) → Fit t → length t ≡ 4738

@@ -13,30 +13,14 @@ use lib.Seq.{take_at, drop_at, length-take-le, get_or-take}
 use Rattle.numbers.specs.Below.{AllBelow}
 use Rattle.numbers.proofs.Cases.{pos_of_not_zero}
 use Rattle.refusal.specs.Promise.{Tells}
-use Rattle.refusal.proofs.Laws.{tells_no}
 use Rattle.refusal.proofs.Ladder.{Yes, No, Met, FailsAt, answer_at, refuses, succeeds, declines, replies}
 use Rattle.field.specs.Field.{sum}
-use Rattle.field.proofs.Laws as Laws
+use Rattle.code.specs.Word.{Characters}
 use Rattle.open_tray.specs.Tray.{room, characters_at, sums_at, held, count, fresh_sums, wrong, with_shares, Fit, Sound}
 use Rattle.open_tray.specs.Promises.{add_tests, Added, Adds, replace_tests, sums_after, Replaced, Replaces, last_line, drop_tests, Dropped, Drops, ask_tests, Asks}
 use Rattle.open_tray.specs.Inside.{replaced_in}
 use Rattle.open_tray.proofs.Rooms.{replaced_room_long, room_long, Put, put_none, put_back, count_written, both_written, edited_as}
 use Rattle.open_tray.proofs.Sums.{wrong_most}
-
--- ---- whether a tray is fit
-
-pub not_whole : (t : List ℕ) → (length t ≡ 4738 → ⊥) → Tells (Fit t) false
-not_whole t n = tells_no (λ f. n f.whole)
-
-pub too_many : (t : List ℕ) → 64 < held t → Tells (Fit t) false
-too_many t n = tells_no (λ f. let few = f.few in omega arith)
-
-pub fit_told : (t : List ℕ) → length t ≡ 4738 → held t ≤ 64 → Tells (Fit t) (leb (count t) (held t))
-fit_told t whole few =
-    record {
-      holds = λ e. record { whole = whole; few = few; counted = leb-true (count t) (held t) e };
-      fails = λ e f. let above = leb-false (count t) (held t) e in let c = f.counted in omega arith;
-    }
 
 -- ---- whether a line is sound
 
@@ -50,20 +34,26 @@ lent_is i t = let e : i * 74 + 74 - i * 74 ≡ 74 = omega arith in ap (λ (n : �
 lent_wrong : (i : ℕ) (t : List ℕ) (w : ℕ) → w ≡ wrong (drop 63 (lent i t)) → w ≡ wrong (sums_at i t)
 lent_wrong i t w e = e ∙ ap (λ (r : List ℕ). wrong (drop 63 r)) (lent_is i t)
 
-pub not_low : (i : ℕ) (t : List ℕ) → No (AllBelow 64 (lent i t)) → Tells (Sound i t) false
-not_low i t d = tells_no (λ s. d.not (subst (AllBelow 64) (sym (lent_is i t)) s.low))
+-- where a byte is above 63
+pub not_low : (i : ℕ) (t : List ℕ) (b : Bool) → Tells (AllBelow 64 (lent i t)) b → b ≡ false → Tells (Sound i t) b
+not_low i t b v e = record { holds = λ h. cc; fails = λ h s. v.fails e (subst (AllBelow 64) (sym (lent_is i t)) s.low) }
 
-pub sound_told : (i : ℕ) (t : List ℕ) (w : ℕ) → Yes (AllBelow 64 (lent i t)) → w ≡ wrong (drop 63 (lent i t)) → Tells (Sound i t) (leb w (count t))
-sound_told i t w low e =
+-- and where none is
+pub sound_told : (i : ℕ) (t : List ℕ) (b : Bool) (w : ℕ) → Tells (AllBelow 64 (lent i t)) b → b ≡ true → w ≡ wrong (drop 63 (lent i t))
+    → Tells (Sound i t) (leb w (count t))
+sound_told i t b w v h e =
     let is = lent_wrong i t w e in
     record {
-      holds = λ l. let most = leb-true w (count t) l in record { low = subst (AllBelow 64) (lent_is i t) low.is; counted = λ z. omega arith };
+      holds = λ l. let most = leb-true w (count t) l in record { low = subst (AllBelow 64) (lent_is i t) (v.holds h); counted = λ z. omega arith };
       fails = λ l s.
           let above = leb-false w (count t) l in
           let few = wrong_most (sums_at i t) in
           let none = s.counted (omega arith) in
           omega arith;
     }
+
+pub as_sound : {i n : ℕ} {t : List ℕ} {b : Bool} → n ≡ i → Tells (Sound n t) b → Tells (Sound i t) b
+as_sound {t = t} {b = b} e told = subst (λ (k : ℕ). Tells (Sound k t) b) e told
 
 -- a line that is sound and has a sum that is not 0 is counted
 pub enough : (i : ℕ) (t : List ℕ) (w : ℕ) → Sound i t → w ≡ wrong (drop 63 (lent i t)) → w ≤ count t
@@ -104,15 +94,20 @@ no_room t h e l = record { not = λ g. omega arith }
 pub some_room : (t : List ℕ) (h : ℕ) → h ≡ held t → h < 64 → Yes (held t < 64)
 some_room t h e l = record { is = omega arith }
 
-pub may_put : (t w : List ℕ) → Yes (Fit t) → Yes (held t < 64) → length w ≡ 63 → Fit t × ((held t < 64) × (length w ≡ 63))
-may_put t w f h l = (f.is, (h.is, l))
+-- what is told of the 63 characters, v, is told of the line that is lent, w
+module _ {w v : List ℕ} (same : v ≡ w) where
+  pub as_told : {b : Bool} → Tells (Characters v) b → Tells (Characters w) b
+  as_told {b} told = subst (λ (x : List ℕ). Tells (Characters x) b) same told
+
+  pub as_added : {t q : List ℕ} → Added t v q → Added t w q
+  as_added {t} {q} put = subst (λ (x : List ℕ). Added t x q) same put
 
 -- what comes back of a tray is as long, whatever is written over the lines held
-pub still_inside : (t r : List ℕ) (n : ℕ) → Fit t → held t < 64 → length r ≡ length (lent (held t) t) → 4737 < length (set (back (held t) r t) 4736 n)
-still_inside t r n f h size =
+pub still_inside : (t r : List ℕ) (k n : ℕ) → Fit t → k < 64 → length r ≡ length (lent k t) → 4737 < length (set (back k r t) 4736 n)
+still_inside t r k n f h size =
     let whole = f.whole in
-    let long = (put_back t r (held t) whole h (size ∙ ap length (lent_is (held t) t) ∙ room_long t (held t) whole h)).long in
-    omega (arith, length-set (back (held t) r t) 4736 n)
+    let long = (put_back t r k whole h (size ∙ ap length (lent_is k t) ∙ room_long t k whole h)).long in
+    omega (arith, length-set (back k r t) 4736 n)
 
 module _ (t w : List ℕ) where
   pub add_refused : (n : ℕ) → FailsAt n (add_tests t w) → Adds t w (answer_at n (add_tests t w) ∷ []) t
@@ -123,16 +118,21 @@ module _ (t w : List ℕ) where
   unfolding Adds
   line_added q m a = succeeds (λ fields r. (fields ≡ []) × Added t w r) 0 t (add_tests t w) [] q m (refl, a)
 
-  -- the room filled, and both bytes after the rooms written
-  pub added_bytes : (r s : List ℕ) (n : ℕ) → Fit t → length w ≡ 63 → held t < 64 → r ≡ w ++ s → s ≡ fresh_sums w → length s ≡ 11 → n ≡ wrong s
+  in_first_free : (r s : List ℕ) (n : ℕ) → Fit t → length w ≡ 63 → held t < 64 → r ≡ w ++ s → s ≡ fresh_sums w → length s ≡ 11 → n ≡ wrong s
       → Added t w (set (set (back (held t) r t) 4736 (held t + 1)) 4737 (count t + n))
-  added_bytes r s n fit long h er es ls en =
+  in_first_free r s n fit long h er es ls en =
       edited_as
       (both_written t (back (held t) r t) (held t) r (put_back t r (held t) fit.whole h size) fit.whole h (held t + 1) (count t + n))
       (ap (take 63) er ∙ take_at w s 63 long) (ap (drop 63) er ∙ drop_at w s 63 long ∙ es) (ap (λ (k : ℕ). count t + k) (en ∙ ap wrong es))
     where
       size : length r ≡ 74
       size = ap length er ∙ length-append w s ∙ omega arith
+
+  -- the room filled, and both bytes after the rooms written
+  pub added_bytes : (r s : List ℕ) (k n : ℕ) → k ≡ held t → Fit t → length w ≡ 63 → held t < 64 → r ≡ w ++ s → s ≡ fresh_sums w → length s ≡ 11 → n ≡ wrong s
+      → Added t w (set (set (back k r t) 4736 (held t + 1)) 4737 (count t + n))
+  added_bytes r s k n same fit long h er es ls en =
+      subst (λ (k : ℕ). Added t w (set (set (back k r t) 4736 (held t + 1)) 4737 (count t + n))) (sym same) (in_first_free r s n fit long h er es ls en)
 
 -- ---- replacing
 
@@ -141,13 +141,6 @@ no_line t h i e l = record { not = λ g. omega arith }
 
 pub some_line : (t : List ℕ) (h i : ℕ) → h ≡ held t → i < h → Yes (i < held t)
 some_line t h i e l = record { is = omega arith }
-
-pub may_look : {t : List ℕ} {i : ℕ} → Yes (Fit t) → Yes (i < held t) → Fit t × (i < held t)
-may_look f h = (f.is, h.is)
-
-pub may_replace : {t : List ℕ} {i a c : ℕ} → Yes (Fit t) → Yes (i < held t) → Yes (Sound i t) → a ≤ 62 → c ≤ 63
-    → Fit t × (((i < held t) × Sound i t) × ((a ≤ 62) × (c ≤ 63)))
-may_replace f h s la lc = (f.is, ((h.is, s.is), (la, lc)))
 
 pub may_replace_in : {t : List ℕ} {i a c : ℕ} → Fit t → i < held t → Sound i t → a ≤ 62 → c ≤ 63
     → ((length (lent i t) ≡ 74) × AllBelow 64 (lent i t)) × ((a ≤ 62) × (c ≤ 63))
@@ -194,6 +187,10 @@ module _ (t : List ℕ) (i a c : ℕ) where
           ap (drop 63) as_room ∙ drop_at (set (characters_at i t) a c) (with_shares a (sum (get_or (room i t) a 0) c) (sums_at i t)) 63 front
           ∙ ap (λ (x : ℕ). with_shares a (sum x c) (sums_at i t)) (sym (get_or-take 63 (room i t) a 0 (omega arith)))
 
+  -- where the line is told by an equal number
+  pub as_replaced : {n : ℕ} {q : List ℕ} → n ≡ i → Replaced t n a c q → Replaced t i a c q
+  as_replaced {q = q} e put = subst (λ (k : ℕ). Replaced t k a c q) e put
+
 -- ---- dropping
 
 pub none_left : (t : List ℕ) (h : ℕ) → h ≡ held t → h ≡ 0 → No (0 < held t)
@@ -227,8 +224,8 @@ module _ (t : List ℕ) where
 
   -- both bytes after the rooms written
   pub dropped_bytes : (i g : ℕ) → Fit t → 0 < held t → i ≡ held t - 1 → g ≡ wrong (drop 63 (lent i t))
-      → Dropped t (set (set t 4736 i) 4737 (count t - g))
-  dropped_bytes i g fit h ei eg = subst (λ (i : ℕ). g ≡ wrong (drop 63 (lent i t)) → Dropped t (set (set t 4736 i) 4737 (count t - g))) (sym ei) of-last eg
+      → Dropped t (set (set t 4736 (last_line t)) 4737 (count t - g))
+  dropped_bytes i g fit h ei eg = subst (λ (i : ℕ). g ≡ wrong (drop 63 (lent i t)) → Dropped t (set (set t 4736 (last_line t)) 4737 (count t - g))) (sym ei) of-last eg
     where
       of-last : g ≡ wrong (drop 63 (lent (last_line t) t)) → Dropped t (set (set t 4736 (last_line t)) 4737 (count t - g))
       of-last e =

@@ -1,25 +1,22 @@
 -- What the operations on a tray kept open promise: add a line, replace one character, drop the last line, ask the count.
-use Rattle.std.specs.Prelude.{◌≡◌, List, [], ◌∷◌, ℕ, ◌+◌, ◌-◌, ◌<◌, ◌≤◌, length, get_or, set}
+use Rattle.std.specs.Prelude.{◌≡◌, Result, Ok, Err, List, [], ◌∷◌, ℕ, ◌+◌, ◌-◌, ◌<◌, ◌≤◌, length, get_or, set}
+use Rattle.refusal.specs.declared.Refusal.{Refusal}
 use Rattle.refusal.specs.declared.Refusal.TheVariants.{InputLength, ValueOver, TrayUnfit, LineNotHeld, AddressOver}
 use Rattle.refusal.specs.Number.{number_of}
 use Rattle.refusal.specs.Promise.{Test, ◌else◌, Promise, Replies}
 use Rattle.field.specs.Field.{sum}
 use Rattle.code.specs.Word.{Characters}
-use Rattle.open_tray.specs.declared.TrayEdit.{TrayEdit}
-use Rattle.open_tray.specs.declared.TrayEdit.TheVariants as E
-use Rattle.open_tray.specs.declared.TrayCount.{TrayCount}
-use Rattle.open_tray.specs.declared.TrayCount.TheVariants as C
 use Rattle.open_tray.specs.Tray.{characters_at, sums_at, held, count, fresh_sums, wrong, with_shares, Fit, Sound, Edited}
 
 -- the paper's number of an operation's answer
-abbrev pub edit_numbers : TrayEdit → List ℕ
-edit_numbers E.Done = 0 ∷ []
-edit_numbers (E.Refused r) = number_of r ∷ []
+abbrev pub edit_numbers : Result Unit Refusal → List ℕ
+edit_numbers (Ok _) = 0 ∷ []
+edit_numbers (Err r) = number_of r ∷ []
 
 -- the paper's numbers where the count is asked for: the answer, and the count
-abbrev pub count_numbers : TrayCount → List ℕ
-count_numbers (C.Wrong n) = 0 ∷ n ∷ []
-count_numbers (C.Refused r) = number_of r ∷ 0 ∷ []
+abbrev pub count_numbers : Result ℕ Refusal → List ℕ
+count_numbers (Ok n) = 0 ∷ n ∷ []
+count_numbers (Err r) = number_of r ∷ 0 ∷ []
 
 -- ---- add a line
 

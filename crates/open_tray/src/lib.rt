@@ -40,130 +40,111 @@ const COUNT: usize = 4737;
 // The bytes of a tray.
 pub const TRAY: usize = 4738;
 
-// That the tray was edited, or why it is as it was.
-#[derive(Clone, Copy)]
-pub enum TrayEdit {
-    Done,
-    Refused(Refusal),
-}
-
-// How many lines have sums that are not all 0, or why that cannot be told.
-#[derive(Clone, Copy)]
-pub enum TrayCount {
-    Wrong { count: u8 },
-    Refused(Refusal),
-}
-
 // Adds a line as the last one, into the first free room.
-pub fn add_line(tray: &mut [u8], line: &[u8]) -> TrayEdit
+pub fn add_line(tray: &mut [u8], line: &[u8]) -> Result<(), Refusal>
     ensures { Adds tray.old line.now (edit_numbers result) tray.new }
 {
     if !fits(tray) {
-        return TrayEdit::Refused(Refusal::TrayUnfit);
+        return Err(Refusal::TrayUnfit);
     }
-    if line.len() != LINE {
-        return TrayEdit::Refused(Refusal::InputLength);
-    }
+    let Ok(line) = <&[u8; LINE]>::try_from(line) else {
+        return Err(Refusal::InputLength);
+    };
     if !eights::all_low(line) {
-        return TrayEdit::Refused(Refusal::ValueOver);
+        return Err(Refusal::ValueOver);
     }
     if eights::byte_at(tray, HELD) >= ROOMS {
-        return TrayEdit::Refused(Refusal::TrayUnfit);
+        return Err(Refusal::TrayUnfit);
     }
     put_line(tray, line);
-    TrayEdit::Done
+    Ok(())
 }
 
 // Replaces one character of a line, and adds the share of the change to the sums held.
-pub fn replace_character(tray: &mut [u8], line: u8, address: u8, character: u8) -> TrayEdit
+pub fn replace_character(
+    tray: &mut [u8],
+    line: u8,
+    address: u8,
+    character: u8,
+) -> Result<(), Refusal>
     ensures { Replaces tray.old line address character (edit_numbers result) tray.new }
 {
     if !fits(tray) {
-        return TrayEdit::Refused(Refusal::TrayUnfit);
+        return Err(Refusal::TrayUnfit);
     }
     if line >= eights::byte_at(tray, HELD) {
-        return TrayEdit::Refused(Refusal::LineNotHeld);
+        return Err(Refusal::LineNotHeld);
     }
     if address > LAST_ADDRESS {
-        return TrayEdit::Refused(Refusal::AddressOver);
+        return Err(Refusal::AddressOver);
     }
     if character > HIGHEST {
-        return TrayEdit::Refused(Refusal::ValueOver);
+        return Err(Refusal::ValueOver);
     }
-    if !sound(tray, line) {
-        return TrayEdit::Refused(Refusal::TrayUnfit);
+    let i = usize::from(line);
+    if !sound(tray, i) {
+        return Err(Refusal::TrayUnfit);
     }
-    put_character(tray, line, address, character);
-    TrayEdit::Done
+    put_character(tray, i, address, character);
+    Ok(())
 }
 
 // Drops the last line. Its room keeps what it holds.
-pub fn drop_line(tray: &mut [u8]) -> TrayEdit
+pub fn drop_line(tray: &mut [u8]) -> Result<(), Refusal>
     ensures { Drops tray.old (edit_numbers result) tray.new }
 {
     if !fits(tray) {
-        return TrayEdit::Refused(Refusal::TrayUnfit);
+        return Err(Refusal::TrayUnfit);
     }
     let held = eights::byte_at(tray, HELD);
     if held == 0 {
-        return TrayEdit::Refused(Refusal::LineNotHeld);
+        return Err(Refusal::LineNotHeld);
     }
-    let last = held - 1;
+    let last = usize::from(held) - 1;
     if !sound(tray, last) {
-        return TrayEdit::Refused(Refusal::TrayUnfit);
+        return Err(Refusal::TrayUnfit);
     }
     lose_line(tray, last);
-    TrayEdit::Done
+    Ok(())
 }
 
 // The count.
-pub fn ask_count(tray: &[u8]) -> TrayCount
+pub fn ask_count(tray: &[u8]) -> Result<u8, Refusal>
     ensures { Asks tray.now (count_numbers result) }
 {
     if !fits(tray) {
-        return TrayCount::Refused(Refusal::TrayUnfit);
+        return Err(Refusal::TrayUnfit);
     }
-    TrayCount::Wrong {
-        count: eights::byte_at(tray, COUNT),
-    }
+    Ok(eights::byte_at(tray, COUNT))
 }
 
-// Whether a tray claims no more than 64 lines, and no count above them.
+// Whether a tray claims no more than 64 lines, and no count above them. No type keeps that: a tray written by hand can lose it by an operation.
 fn fits(tray: &[u8]) -> bool
     ensures { Tells (Fit tray.now) result }
 {
-    if tray.len() != TRAY {
-        return false;
-    }
-    if tray[HELD] > ROOMS {
-        return false;
-    }
-    tray[COUNT] <= tray[HELD]
+    tray.len() == TRAY && tray[HELD] <= ROOMS && tray[COUNT] <= tray[HELD]
 }
 
 // Whether a line held has no character or sum over 63, and no sum that is not 0 at count 0.
-fn sound(tray: &[u8], i: u8) -> bool
+fn sound(tray: &[u8], i: usize) -> bool
     requires fit { Fit tray.now }
     requires i_bound { i < held tray.now }
     ensures { Tells (Sound i tray.now) result }
 {
-    let start = i as usize * ROOM;
-    let end = start + ROOM;
-    if !eights::all_low(&tray[start..end]) {
-        return false;
-    }
-    wrong_in(&tray[start..end]) <= tray[COUNT]
+    let start = i * ROOM;
+    let room = &tray[start..start + ROOM];
+    eights::all_low(room) && wrong_in(room) <= tray[COUNT]
 }
 
 // Puts a line and its sums into the first free room.
-fn put_line(tray: &mut [u8], line: &[u8])
+fn put_line(tray: &mut [u8], line: &[u8; LINE])
     requires fit { Fit tray.old }
-    requires tray_bound { (held tray.old < 64) × (length line.now ≡ 63) }
+    requires free { held tray.old < 64 }
     ensures { Added tray.old line.now tray.new }
 {
     let held = tray[HELD];
     let count = tray[COUNT];
-    let start = held as usize * ROOM;
+    let start = usize::from(held) * ROOM;
     let end = start + ROOM;
     let sums = sums_of(line);
     fill(&mut tray[start..end], line, sums);
@@ -171,15 +152,16 @@ fn put_line(tray: &mut [u8], line: &[u8])
     tray[COUNT] = count + wrong_of(&sums);
 }
 
-// Puts a character into a line held, and the change into its sums and the count.
-fn put_character(tray: &mut [u8], i: u8, address: u8, character: u8)
+// Puts a character into a line held, and the change into its sums and the count. The bounds are asked here and below, and no type has them: the public
+// parameters are bytes, and two tests of `replace_character` give the bounds.
+fn put_character(tray: &mut [u8], i: usize, address: u8, character: u8)
     requires fit { Fit tray.old }
     requires i_bound { (i < held tray.old) × Sound i tray.old }
     requires address_bound { (address ≤ 62) × (character ≤ 63) }
     ensures { Replaced tray.old i address character tray.new }
 {
     let count = tray[COUNT];
-    let start = i as usize * ROOM;
+    let start = i * ROOM;
     let end = start + ROOM;
     let before = wrong_in(&tray[start..end]);
     replace(&mut tray[start..end], address, character);
@@ -188,20 +170,20 @@ fn put_character(tray: &mut [u8], i: u8, address: u8, character: u8)
 }
 
 // Loses the last line, i, from the lines held and from the count.
-fn lose_line(tray: &mut [u8], i: u8)
+fn lose_line(tray: &mut [u8], i: usize)
     requires fit { Fit tray.old }
     requires tray_nonzero { (0 < held tray.old) × ((i ≡ held tray.old - 1) × Sound i tray.old) }
     ensures { Dropped tray.old tray.new }
 {
     let count = tray[COUNT];
-    let start = i as usize * ROOM;
+    let start = i * ROOM;
     let end = start + ROOM;
     let before = wrong_in(&tray[start..end]);
-    tray[HELD] = i;
+    tray[HELD] -= 1;
     tray[COUNT] = count - before;
 }
 
-// 1 where the line in a room has a sum that is not 0, and else 0.
+// 1 where the line in a room has a sum that is not 0, and else 0. A room is asked to be 74 long: it is a part of the caller's bytes, which film.h lays out.
 fn wrong_in(room: &[u8]) -> u8
     requires { length room.now ≡ 74 }
     ensures { result ≡ wrong (drop 63 room.now) }
@@ -213,32 +195,23 @@ fn wrong_in(room: &[u8]) -> u8
 fn wrong_of(sums: &[u8]) -> u8
     ensures { result ≡ wrong sums.now }
 {
-    let mut k: usize = 0;
-    while k < sums.len() {
-        if sums[k] != 0 {
-            return 1;
-        }
-        k += 1;
-    }
-    0
+    u8::from(sums.iter().any(|sum| *sum != 0))
 }
 
 // The eleven power sums of a line, marks off.
-fn sums_of(line: &[u8]) -> [u8; SUMS]
-    requires { length line.now ≡ 63 }
+fn sums_of(line: &[u8; LINE]) -> [u8; SUMS]
     ensures { result ≡ fresh_sums line.now }
 {
     sums::unpacked(line::error_sums(line))
 }
 
 // Fills a room with a line and its sums.
-fn fill(room: &mut [u8], line: &[u8], sums: [u8; SUMS])
-    requires room_len { length room.old ≡ 74 }
-    requires line_len { length line.now ≡ 63 }
+fn fill(room: &mut [u8], line: &[u8; LINE], sums: [u8; SUMS])
+    requires { length room.old ≡ 74 }
     ensures { room.new ≡ line.now ++ sums }
 {
-    copying::copy(line, room);
-    copying::copy(&sums, &mut room[LINE..]);
+    room[..LINE].copy_from_slice(line);
+    room[LINE..].copy_from_slice(&sums);
 }
 
 // Replaces the character at an address of a room, and adds the share of the change to each of its sums.
@@ -247,7 +220,7 @@ fn replace(room: &mut [u8], address: u8, character: u8)
     requires address_bound { (address ≤ 62) × (character ≤ 63) }
     ensures { room.new ≡ replaced_in room.old address character }
 {
-    let at = address as usize;
+    let at = usize::from(address);
     let change = room[at] ^ character;
     room[at] = character;
     add_shares(&mut room[LINE..], address, change);
@@ -264,11 +237,9 @@ fn add_shares(sums: &mut [u8], address: u8, change: u8)
     }
     let after = LAST_ADDRESS - address;
     let mut log = first_log(change, after);
-    let mut k: usize = 0;
-    while k < SUMS {
-        sums[k] = sums[k] ^ places::power_of(log);
+    for sum in sums {
+        *sum ^= places::power_of(log);
         log = (log + after) % PERIOD;
-        k += 1;
     }
 }
 
@@ -278,5 +249,6 @@ fn first_log(change: u8, after: u8) -> u8
     requires after_bound { after ≤ 62 }
     ensures { FirstLog change after result }
 {
-    ((places::log_of(change) as u16 + FIRST_EXPONENT * after as u16) % PERIOD as u16) as u8
+    ((u16::from(places::log_of(change)) + FIRST_EXPONENT * u16::from(after))
+        % u16::from(PERIOD)) as u8
 }

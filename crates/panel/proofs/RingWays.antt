@@ -16,13 +16,10 @@ use Rattle.refusal.proofs.Answers.{first_tests, later_tests, met_first, without_
 use Rattle.code.specs.Word.{Characters, Line, text}
 use Rattle.code.proofs.Lines.{line_long, line_characters}
 use Rattle.ring.specs.declared.RingReading.{RingReading}
-use Rattle.ring.specs.declared.RingReading.TheVariants as R
-use Rattle.ring.specs.Promises.{reading_numbers, reading_tests, ReadsRing}
+use Rattle.ring.specs.Promises.{reading_numbers, line_read, reading_tests, ReadsRing}
 use Rattle.ring.proofs.Theorems.{one_read_at}
-use Rattle.panel.specs.declared.PanelText.{PanelText}
-use Rattle.panel.specs.declared.PanelText.TheVariants as P
+use Rattle.std.specs.Prelude.{Ok, Err}
 use Rattle.panel.specs.Promises.{panel_numbers, text_tests, Plain, NoTemplate, Shows, Panels, LineOf, TextHas, ring_tests, ShowsRing, PanelsRing}
-use Rattle.panel.specs.Inside.{ring_leaving}
 
 -- ---- the text of a line
 
@@ -44,9 +41,9 @@ pub one_line_of : (ring : List ℕ) (t : ℕ) (l m : List ℕ) → length ring �
 one_line_of ring t l m long small (f, p) (g, q) = (one_read_at ring t long small f g l m p q).1
 
 -- a line that reading gives is one
-pub line_read : (ring : List ℕ) (t : ℕ) (held l : List ℕ) (s n d f g : ℕ) → ReadsRing ring t held (reading_numbers (R.Line s n d f g)) l → LineOf ring t l
+pub read_line_there : (ring : List ℕ) (t : ℕ) (held l : List ℕ) (s n d f g : ℕ) → ReadsRing ring t held (reading_numbers (line_read s n d f g)) l → LineOf ring t l
 unfolding ReadsRing
-line_read ring t held l s n d f g reads = (s ∷ n ∷ d ∷ f ∷ g ∷ [], reads.1)
+read_line_there ring t held l s n d f g reads = (s ∷ n ∷ d ∷ f ∷ g ∷ [], reads.1)
 
 -- ---- where the ring is read: what is done with the text of its line is done with the ring
 
@@ -90,20 +87,14 @@ module _ (ring : List ℕ) (t : ℕ) (old : List ℕ) where
   ring_refused = refuses (ShowsRing ring t old) 1 old (ring_tests ring t (length old))
 
   module _ (wide : 294 ≤ length old) (held line : List ℕ) (sized : length held ≡ 63) where
-    pub reading_refused : (r : Refusal) → ReadsRing ring t held (reading_numbers (R.Refused r)) line → PanelsRing ring t old (panel_numbers (P.Refused r)) old
+    pub reading_refused : (r : Refusal) → ReadsRing ring t held (reading_numbers (Err r)) line → PanelsRing ring t old (panel_numbers (Err r)) old
     unfolding ReadsRing PanelsRing
     reading_refused r p = refuses_too (ShowsRing ring t old) 1 old (ring_tests ring t (length old)) r (passes_on ring t (length old) r wide (rw sized at p.0))
 
-    -- a reading that is a refusal is left with
-    pub ring_left : (reading : RingReading) (p : PanelText) (r : Refusal) → reading ≡ R.Refused r → ReadsRing ring t held (reading_numbers reading) line
-        → p ≡ ring_leaving reading → PanelsRing ring t old (panel_numbers p) old
-    ring_left reading p r e a q = rw (q, e) (reading_refused r (rw e at a))
-
     -- and from one that is a line its text goes on
-    pub ring_put : (reading : RingReading) (s n d f g : ℕ) → reading ≡ R.Line s n d f g → ReadsRing ring t held (reading_numbers reading) line
+    pub ring_put : (r : RingReading) → ReadsRing ring t held (reading_numbers (Ok r)) line
         → (numbers new : List ℕ) → Panels (take 50 line) old numbers new → PanelsRing ring t old numbers new
     unfolding ReadsRing
-    ring_put reading s n d f g is given =
-        let read : ReadsRing ring t held (reading_numbers (R.Line s n d f g)) line = rw is at given in
+    ring_put r read =
         let q = passed (reading_tests ring t (length held)) 0 read.0 refl in
-        as_text ring t old line q.0 wide q.1.1.0 q.1.1.1.0 (line_read ring t held line s n d f g read)
+        as_text ring t old line q.0 wide q.1.1.0 q.1.1.1.0 (read_line_there ring t held line r.start r.number r.distance r.first r.last read)

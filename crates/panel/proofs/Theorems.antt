@@ -13,8 +13,7 @@ use Rattle.refusal.proofs.Laws.{one_refusal, refusal_positive, Passed, passed}
 use Rattle.refusal.proofs.Ladder.{◌then◌, denied, above}
 use Rattle.refusal.proofs.Theorems.{one_result}
 use Rattle.code.specs.Word.{Characters}
-use Rattle.panel.specs.declared.PanelText.{PanelText}
-use Rattle.panel.specs.declared.PanelText.TheVariants as P
+use Rattle.std.specs.Prelude.{Result, Ok, Err}
 use Rattle.panel.specs.Escaping.{written_by, escaped}
 use Rattle.panel.specs.Harmless.{Harmless, begins, begins_name, Printable, read_by, undone_after, undone}
 use Rattle.panel.specs.Promises.{panel_numbers, kind, Plain, shown, text_tests, Shows, Panels}
@@ -25,11 +24,11 @@ use Rattle.panel.proofs.Ways.{text_refused, text_shown}
 -- ---- one result
 
 -- the numbers fix the answer
-pub one_panel : (r s : PanelText) → panel_numbers r ≡ panel_numbers s → r ≡ s
-one_panel (P.Written n) (P.Written m) q = ap P.Written (ap (λ (l : List ℕ). get_or l 1 0) q)
-one_panel (P.Written n) (P.Refused s) q = absurd (refusal_positive s (sym (ap (λ (l : List ℕ). get_or l 0 0) q)))
-one_panel (P.Refused r) (P.Written m) q = absurd (refusal_positive r (ap (λ (l : List ℕ). get_or l 0 0) q))
-one_panel (P.Refused r) (P.Refused s) q = ap P.Refused (one_refusal r s (ap (λ (l : List ℕ). get_or l 0 0) q))
+pub one_panel : (r s : Result ℕ Refusal) → panel_numbers r ≡ panel_numbers s → r ≡ s
+one_panel (Ok n) (Ok m) q = ap Ok (ap (λ (l : List ℕ). get_or l 1 0) q)
+one_panel (Ok n) (Err s) q = absurd (refusal_positive s (sym (ap (λ (l : List ℕ). get_or l 0 0) q)))
+one_panel (Err r) (Ok m) q = absurd (refusal_positive r (ap (λ (l : List ℕ). get_or l 0 0) q))
+one_panel (Err r) (Err s) q = ap Err (one_refusal r s (ap (λ (l : List ℕ). get_or l 0 0) q))
 
 pub one_shown : (v old f g x y : List ℕ) → Shows v old f x → Shows v old g y → (f ≡ g) × (x ≡ y)
 one_shown v old f g x y p q = (p.count ∙ sym q.count, p.output ∙ sym q.output)
@@ -40,12 +39,12 @@ unfolding Panels
 same_text v old a b x y = one_result (text_tests v (length old)) (Shows v old) 1 (λ _. one_shown v old) old a b x y
 
 -- so they are equal
-pub one_text : (v old : List ℕ) (r s : PanelText) (x y : List ℕ) → Panels v old (panel_numbers r) x → Panels v old (panel_numbers s) y → (r ≡ s) × (x ≡ y)
+pub one_text : (v old : List ℕ) (r s : Result ℕ Refusal) (x y : List ℕ) → Panels v old (panel_numbers r) x → Panels v old (panel_numbers s) y → (r ≡ s) × (x ≡ y)
 one_text v old r s x y p q = let e = same_text v old (panel_numbers r) (panel_numbers s) x y p q in (one_panel r s e.0, e.1)
 
 -- ---- what is written, wherever the answer is a length n: the first n bytes of the output
 
-module _ (v old new : List ℕ) (n : ℕ) (p : Panels v old (panel_numbers (P.Written n)) new) where
+module _ (v old new : List ℕ) (n : ℕ) (p : Panels v old (panel_numbers (Ok n)) new) where
   shows : Shows v old (n ∷ []) new
   unfolding Panels
   shows = p.1
@@ -107,49 +106,49 @@ one_list (a ∷ s) (b ∷ t) e =
     let h : 32 + a ≡ 32 + b = ap (λ (l : List ℕ). get_or l 0 0) e in
     ap₂ (λ (x : ℕ) (l : List ℕ). x ∷ l) (omega arith) (one_list s t (ap (drop 1) e))
 
-pub look_alike : (v w old older x y : List ℕ) (n m : ℕ) → Panels v old (panel_numbers (P.Written n)) x → Panels w older (panel_numbers (P.Written m)) y
+pub look_alike : (v w old older x y : List ℕ) (n m : ℕ) → Panels v old (panel_numbers (Ok n)) x → Panels w older (panel_numbers (Ok m)) y
     → take n x ≡ take m y → v ≡ w
 look_alike v w old older x y n m p q e =
     let rest : drop 1 v ≡ drop 1 w = one_list (drop 1 v) (drop 1 w) (sym (writes_undone v old x n p) ∙ ap undone e ∙ writes_undone w older y m q) in
     whole v old x n p ∙ ap₂ (λ (k : ℕ) (l : List ℕ). k ∷ l) (writes_plain v old x n p ∙ sym (writes_plain w older y m q)) rest ∙ sym (whole w older y m q)
   where
     -- a text is its kind and the rest
-    whole : (v old x : List ℕ) (n : ℕ) → Panels v old (panel_numbers (P.Written n)) x → v ≡ kind v ∷ drop 1 v
+    whole : (v old x : List ℕ) (n : ℕ) → Panels v old (panel_numbers (Ok n)) x → v ≡ kind v ∷ drop 1 v
     whole v old x n p = let long : length v ≡ 50 = (tests v old x n p).0 in drop-cons v 0 0 (omega arith)
 
 -- ---- every result, for each text: 50 characters and an output of at least 294 bytes
 
-module _ (v old : List ℕ) (r : PanelText) (x : List ℕ) (p : Panels v old (panel_numbers r) x) where
-  refused-with : (q : Refusal) → Panels v old (panel_numbers (P.Refused q)) old → (r ≡ P.Refused q) × (x ≡ old)
-  refused-with q = one_text v old r (P.Refused q) x old p
+module _ (v old : List ℕ) (r : Result ℕ Refusal) (x : List ℕ) (p : Panels v old (panel_numbers r) x) where
+  refused-with : (q : Refusal) → Panels v old (panel_numbers (Err q)) old → (r ≡ Err q) × (x ≡ old)
+  refused-with q = one_text v old r (Err q) x old p
 
   -- a text that is not 50 long
-  pub long_refused : (length v ≡ 50 → ⊥) → (r ≡ P.Refused InputLength) × (x ≡ old)
+  pub long_refused : (length v ≡ 50 → ⊥) → (r ≡ Err InputLength) × (x ≡ old)
   long_refused d = refused-with InputLength (text_refused v old 0 (denied d))
 
   module _ (long : length v ≡ 50) where
     -- an output of less than 294 bytes
-    pub short_refused : length old < 294 → (r ≡ P.Refused OutputLength) × (x ≡ old)
+    pub short_refused : length old < 294 → (r ≡ Err OutputLength) × (x ≡ old)
     short_refused h = refused-with OutputLength (text_refused v old 1 (long then above h))
 
     module _ (wide : 294 ≤ length old) where
       -- a character over 63, whatever the kind is
-      pub high_refused : (Characters v → ⊥) → (r ≡ P.Refused ValueOver) × (x ≡ old)
+      pub high_refused : (Characters v → ⊥) → (r ≡ Err ValueOver) × (x ≡ old)
       high_refused d = refused-with ValueOver (text_refused v old 2 (long then wide then denied d))
 
       module _ (range : Characters v) where
         -- a template
-        pub template_refused : kind v ≡ 1 → (r ≡ P.Refused Template) × (x ≡ old)
+        pub template_refused : kind v ≡ 1 → (r ≡ Err Template) × (x ≡ old)
         template_refused e = refused-with Template (text_refused v old 3 (long then wide then range then denied (λ f. f e)))
 
         -- a kind that is not known
-        pub unknown_refused : 1 < kind v → (r ≡ P.Refused UnknownKind) × (x ≡ old)
+        pub unknown_refused : 1 < kind v → (r ≡ Err UnknownKind) × (x ≡ old)
         unknown_refused h = refused-with UnknownKind (text_refused v old 4 (long then wide then range then (λ e. omega arith) then denied (λ e. omega arith)))
 
         -- plain text is written: what is shown of it, and the rest of the output as it was
-        pub plain_written : Plain v → (r ≡ P.Written (length (shown v))) × (x ≡ shown v ++ drop (length (shown v)) old)
+        pub plain_written : Plain v → (r ≡ Ok (length (shown v))) × (x ≡ shown v ++ drop (length (shown v)) old)
         plain_written e =
-            one_text v old r (P.Written (length (shown v))) x (shown v ++ drop (length (shown v)) old) p
+            one_text v old r (Ok (length (shown v))) x (shown v ++ drop (length (shown v)) old) p
             (text_shown v old (length (shown v)) (shown v ++ drop (length (shown v)) old)
             (long then wide then range then (λ f. omega arith) then e then tt) (record { count = refl; output = refl }))
 
@@ -168,8 +167,8 @@ quotes_characters : Characters (0 ∷ replicate 49 2)
 quotes_characters zero = omega arith
 quotes_characters (suc a) = twos_characters 49 a
 
-pub all_quotes : (old : List ℕ) (r : PanelText) (x : List ℕ) → 294 ≤ length old → Panels (0 ∷ replicate 49 2) old (panel_numbers r) x → r ≡ P.Written 294
-all_quotes old r x wide p = (plain_written (0 ∷ replicate 49 2) old r x p refl wide quotes_characters refl).0 ∙ ap P.Written quotes_long
+pub all_quotes : (old : List ℕ) (r : Result ℕ Refusal) (x : List ℕ) → 294 ≤ length old → Panels (0 ∷ replicate 49 2) old (panel_numbers r) x → r ≡ Ok 294
+all_quotes old r x wide p = (plain_written (0 ∷ replicate 49 2) old r x p refl wide quotes_characters refl).0 ∙ ap Ok quotes_long
 
 -- ---- what the definitions say of some texts
 

@@ -1,12 +1,11 @@
 -- The ways out of reading a text and of writing it, a test at a time, in order.
-use mathlib.Core.Path.{◌≡◌, refl, ap}
+use mathlib.Core.Path.{◌≡◌, refl, ap, subst}
 use mathlib.Core.List.{List, [], ◌∷◌, ◌++◌}
 use Prim.Native.Nat.{ℕ, ◌≤◌}
 use native.Mathlib.Omega.{arith}
 use lib.ListN.{length, get_or, drop, length-drop}
 use Rattle.refusal.specs.declared.Refusal.{Refusal}
 use Rattle.refusal.specs.declared.Refusal.TheVariants.{Template, UnknownKind}
-use Rattle.refusal.specs.Number.{number_of}
 use Rattle.refusal.specs.Promise.{Test, ◌else◌}
 use Rattle.refusal.proofs.Laws.{Passed, passed}
 use Rattle.refusal.proofs.Ladder.{Met, FailsAt, answer_at, ◌then◌, met_answer, fails_answer, refuses, refuses_too, succeeds, denied}
@@ -14,12 +13,9 @@ use Rattle.refusal.proofs.Answers.{first_tests, met_first}
 use Rattle.code.specs.Word.{Characters}
 use Rattle.text.specs.Writing.{Puts}
 use Rattle.text.proofs.Writing.{puts_whole}
-use Rattle.panel.specs.declared.PanelText.{PanelText}
-use Rattle.panel.specs.declared.PanelText.TheVariants as P
-use Rattle.panel.specs.declared.TextReading.{TextReading}
-use Rattle.panel.specs.declared.TextReading.TheVariants as T
+use Rattle.std.specs.Prelude.{Result, Ok, Err}
 use Rattle.panel.specs.Promises.{panel_numbers, text_tests, shown, Shows, Panels}
-use Rattle.panel.specs.Inside.{reading_number, Tests, OfKind, leaving}
+use Rattle.panel.specs.Inside.{reading_number, Tests, OfKind}
 use Rattle.panel.proofs.Escaping.{escaped_long}
 
 -- ---- the kind
@@ -41,6 +37,10 @@ unknown_kind k d f = fails_answer (kind_tests k) 1 (f then denied d)
 
 -- ---- the tests
 
+-- what was read of a text that is plain
+pub tested : (v : List ℕ) (room : ℕ) (r : Result Unit Refusal) → Tests v room (reading_number r) → (x : Unit) → r ≡ Ok x → Tests v room 0
+tested v room r t x e = subst (λ (q : Result Unit Refusal). Tests v room (reading_number q)) e t
+
 module _ (v : List ℕ) (room : ℕ) where
   pub not_read : (n : ℕ) → FailsAt n (text_tests v room) → Tests v room (answer_at n (text_tests v room))
   unfolding Tests
@@ -58,25 +58,18 @@ module _ (v old : List ℕ) where
   unfolding Panels
   text_refused = refuses (Shows v old) 1 old (text_tests v (length old))
 
-  pub text_shown : (next : ℕ) (new : List ℕ) → Met (text_tests v (length old)) → Shows v old (next ∷ []) new → Panels v old (panel_numbers (P.Written next)) new
+  pub text_shown : (next : ℕ) (new : List ℕ) → Met (text_tests v (length old)) → Shows v old (next ∷ []) new → Panels v old (panel_numbers (Ok next)) new
   unfolding Panels
   text_shown next = succeeds (Shows v old) 1 old (text_tests v (length old)) (next ∷ [])
 
-  left-with : (r : Refusal) → Tests v (length old) (number_of r) → Panels v old (panel_numbers (P.Refused r)) old
+  -- a reading that is a refusal is passed on
+  pub text_left : (r : Refusal) → Tests v (length old) (reading_number (Err r)) → Panels v old (panel_numbers (Err r)) old
   unfolding Tests Panels
-  left-with = refuses_too (Shows v old) 1 old (text_tests v (length old))
-
-  -- a reading that is a refusal is left with
-  pub text_left : (reading : TextReading) (p : PanelText) (r : Refusal) → reading ≡ T.Refused r → Tests v (length old) (reading_number reading) → p ≡ leaving reading
-      → Panels v old (panel_numbers p) old
-  text_left reading p r e a q = rw (q, e) (left-with r (rw e at a))
+  text_left = refuses_too (Shows v old) 1 old (text_tests v (length old))
 
   -- ---- plain text goes on
 
-  module _ (reading : TextReading) (is : reading ≡ T.Plain) (tests : Tests v (length old) (reading_number reading)) where
-    told : Tests v (length old) 0
-    told = rw is at tests
-
+  module _ (told : Tests v (length old) 0) where
     all_hold : Passed (text_tests v (length old))
     unfolding Tests
     all_hold = passed (text_tests v (length old)) 0 told refl

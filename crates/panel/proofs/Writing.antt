@@ -1,16 +1,16 @@
 -- Writing what is escaped: a character, and the characters one by one.
 use mathlib.Core.Path.{◌≡◌, ap, ◌∙◌}
 use mathlib.Core.List.{List, [], ◌∷◌, ◌++◌}
-use Prim.Native.Nat.{ℕ, ◌+◌, ◌<◌, ◌≤◌}
+use Prim.Native.Nat.{ℕ, ◌+◌, ◌-◌, ◌<◌}
 use native.Mathlib.Numerals.{add-one}
 use native.Mathlib.Omega.{arith}
-use lib.ListN.{length, get_or, take, drop}
-use lib.Seq.{length-take-le, take-suc, take_all, drop-append-le}
+use lib.ListN.{length, get_or, take, drop, length-drop}
+use lib.Seq.{take-suc, take_all, get_or-drop}
 use borrow.Author.Tests.{ne_eqb}
+use Rattle.code.specs.Word.{Characters}
 use Rattle.text.specs.Writing.{Puts}
 use Rattle.text.proofs.Writing.{puts_none, puts_then}
 use Rattle.panel.specs.Escaping.{written_by, written, escaped}
-use Rattle.panel.specs.Promises.{shown}
 use Rattle.panel.proofs.Escaping.{escaped_append, escaped_one}
 
 -- ---- a character
@@ -27,28 +27,22 @@ module _ (old new : List ℕ) (at next b : ℕ) where
 
 -- ---- the characters after the kind, one by one
 
--- of the first i characters of a text all but the kind are written
-pub record ShownTo (v old out : List ℕ) (next i : ℕ) : Type 0 where
-  pub least : 1 ≤ i
-  pub most : i ≤ length v
-  pub puts : Puts old out 0 next (shown (take i v))
+-- a text without its kind, as the code takes it
+pub after_kind : (v : List ℕ) → take (length v - 1) (drop 1 v) ≡ drop 1 v
+after_kind v = take_all (length v - 1) (drop 1 v) (omega (arith, length-drop 1 v))
 
-pub shown_none : (v old : List ℕ) → 1 ≤ length v → ShownTo v old old 0 1
+pub shown_character : (v : List ℕ) → Characters v → (i : ℕ) → get_or (take (length v - 1) (drop 1 v)) i 0 < 64
+shown_character v range i = rw (after_kind v, get_or-drop 1 v i 0) (range (1 + i))
+
+pub shown_none : (old : List ℕ) → Puts old old 0 0 (escaped [])
 unfolding escaped
-shown_none (k ∷ v) old h = record { least = omega arith; most = h; puts = puts_none old 0 }
-shown_none [] old h = absurd (omega arith)
+shown_none old = puts_none old 0
 
-module _ (v old out : List ℕ) (next i : ℕ) (t : ShownTo v old out next i) where
-  pub shown_more : i < length v → (new : List ℕ) (last : ℕ) → Puts out new next last (written (32 + get_or v i 0)) → ShownTo v old new last (i + 1)
-  shown_more h new last w =
-      let c : ℕ = get_or v i 0 in
-      let least = t.least in
-      let e : shown (take (i + 1) v) ≡ shown (take i v) ++ written (32 + c) =
-      ap shown (ap (λ (k : ℕ). take k v) (add-one i) ∙ take-suc v i 0 h)
-      ∙ ap escaped (drop-append-le 1 (take i v) (c ∷ []) (omega (arith, length-take-le i v t.most)))
-      ∙ escaped_append (drop 1 (take i v)) (c ∷ []) ∙ ap (λ (l : List ℕ). shown (take i v) ++ l) (escaped_one c)
-      in
-      record { least = omega arith; most = omega arith; puts = rw e (puts_then t.puts w) }
-
-  pub shown_all : length v ≤ i → Puts old out 0 next (shown v)
-  shown_all h = rw (take_all i v h) at t.puts
+pub shown_more : (cs old out new : List ℕ) (next last i : ℕ) → Puts old out 0 next (escaped (take i cs)) → i < length cs
+    → Puts out new next last (written (32 + get_or cs i 0)) → Puts old new 0 last (escaped (take (i + 1) cs))
+shown_more cs old out new next last i p h w =
+    let e : escaped (take (i + 1) cs) ≡ escaped (take i cs) ++ written (32 + get_or cs i 0) =
+    ap escaped (ap (λ (k : ℕ). take k cs) (add-one i) ∙ take-suc cs i 0 h) ∙ escaped_append (take i cs) (get_or cs i 0 ∷ [])
+    ∙ ap (λ (l : List ℕ). escaped (take i cs) ++ l) (escaped_one (get_or cs i 0))
+    in
+    rw e (puts_then p w)

@@ -1,18 +1,17 @@
 -- What the two calls promise: the numbers of the answer, the tests in the paper's order, and what a success gives.
-use Rattle.std.specs.Prelude.{◌≡◌, List, [], ◌∷◌, ◌++◌, ℕ, ◌≤◌, length, get_or, drop}
+use Rattle.std.specs.Prelude.{◌≡◌, List, [], ◌∷◌, ◌++◌, ℕ, ◌≤◌, length, get_or, drop, Result, Ok, Err}
+use Rattle.refusal.specs.declared.Refusal.{Refusal}
 use Rattle.refusal.specs.declared.Refusal.TheVariants.{InputLength, OutputLength, ValueOver, RadiusOver, NoLine, ManyStarts, Template, UnknownKind}
 use Rattle.refusal.specs.Number.{number_of}
 use Rattle.refusal.specs.Promise.{Test, ◌else◌, Promise}
 use Rattle.code.specs.Word.{Characters, text}
 use Rattle.ring.specs.Promises.{ListHas, ReadsAt}
-use Rattle.panel.specs.declared.PanelText.{PanelText}
-use Rattle.panel.specs.declared.PanelText.TheVariants as P
 use Rattle.panel.specs.Escaping.{escaped}
 
 -- the numbers of an answer: the answer, and the length written
-abbrev pub panel_numbers : PanelText → List ℕ
-panel_numbers (P.Written length) = 0 ∷ length ∷ []
-panel_numbers (P.Refused r) = number_of r ∷ 0 ∷ []
+abbrev pub panel_numbers : Result ℕ Refusal → List ℕ
+panel_numbers (Ok length) = 0 ∷ length ∷ []
+panel_numbers (Err r) = number_of r ∷ 0 ∷ []
 
 -- the first of a text's characters is its kind: 0 plain, 1 template, others unknown
 abbrev pub kind : List ℕ → ℕ

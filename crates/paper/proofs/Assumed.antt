@@ -1,6 +1,5 @@
 -- Where exactly as many errors are assumed as there are, the attempt finds the line: neither system is singular, and what is added makes the line.
-use mathlib.Core.Path.{◌≡◌, sym, ap, ap₂, ◌∙◌, subst}
-use mathlib.Core.Bool.{true}
+use mathlib.Core.Path.{◌≡◌, refl, sym, ap, ap₂, ◌∙◌, subst}
 use mathlib.Core.Logic.{⊎_elim}
 use mathlib.Core.List.{List, [], ◌∷◌}
 use Prim.Native.Nat.{ℕ, zero, suc, ◌+◌, ◌-◌, ◌%◌, ◌<◌, ◌≤◌}
@@ -8,8 +7,9 @@ use native.Mathlib.Nat.{le_of_eq, add-suc, add-zero, zero-add}
 use native.Mathlib.Omega.{arith}
 use lib.ListN.{length, get_or, drop, length-drop, get_or-eq_default}
 use lib.Seq.{get_or-drop}
+use Rattle.std.specs.Prelude.{Some, None}
 use Rattle.numbers.specs.Total.{total}
-use Rattle.numbers.proofs.Cases.{le_or_lt, same_or_not, pos_of_not_zero, true_of_not_false}
+use Rattle.numbers.proofs.Cases.{le_or_lt, same_or_not, pos_of_not_zero}
 use Rattle.numbers.proofs.Totals.{total_same}
 use Rattle.field.specs.Field.{sum, product, α, power}
 use Rattle.field.proofs.Laws
@@ -26,9 +26,7 @@ use Rattle.code.proofs.Words.{same_word, listed_long, listed_get, length_added, 
 use Rattle.code.proofs.Sums.{places, places_get, places_good, values_63, moment_total, power_sum_lt, power_sum_mod, power_sum_added, power_sum_moment}
 use Rattle.code.proofs.Distances.{weight_le, distance_weight}
 use Rattle.code.proofs.Lines.{line_long, line_characters, line_sums}
-use Rattle.matrix.specs.declared.Solution.{Solution}
-use Rattle.matrix.specs.System.{at, dot, Regular, entry, Solves}
-use Rattle.locations.specs.declared.Locations.{Locations}
+use Rattle.matrix.specs.System.{at, dot, Regular, entry, Solution}
 use Rattle.locations.specs.Roots.{Finds}
 use Rattle.paper.specs.Inside.{ErrorsHave, SumRows, PowerRows, Corrects}
 
@@ -106,15 +104,14 @@ module _ (xs s : List ℕ) (n : ℕ) (few : n ≤ 5) (long : length xs ≡ 5) (p
       k
 
   -- and the magnitudes have the sums
-  pub values_have : (r : Solution) → Solves n m r → ((i : ℕ) → i < 11 → get_or s i 0 < 64) → (i : ℕ) → i < n
-      → total n (λ k. product (get_or r.unknowns k 0) (power (get_or xs (5 - n + k) 0) i)) ≡ get_or s (5 + i) 0
-  values_have r solves small i h =
-      let found : r.found ≡ true = true_of_not_false r.found (λ z. solves.singular z powers_regular) in
-      let v : ℕ → ℕ = entry r.unknowns in
+  pub values_have : (vs : List ℕ) → Solution n m vs → ((i : ℕ) → i < 11 → get_or s i 0 < 64) → (i : ℕ) → i < n
+      → total n (λ k. product (get_or vs k 0) (power (get_or xs (5 - n + k) 0) i)) ≡ get_or s (5 + i) 0
+  values_have vs solves small i h =
+      let v : ℕ → ℕ = entry vs in
       Laws.sum_eq (total n (λ k. product (v k) (power (get_or xs (5 - n + k) 0) i))) (get_or s (5 + i) 0)
       (ap (sum (total n (λ k. product (v k) (power (get_or xs (5 - n + k) 0) i))))
-      (sym (ap (product (get_or s (5 + i) 0)) (solves.top found) ∙ Laws.product_one (get_or s (5 + i) 0) (small (5 + i) (omega arith))))
-      ∙ sym (row_is v i h) ∙ solves.null found i h)
+      (sym (ap (product (get_or s (5 + i) 0)) solves.top ∙ Laws.product_one (get_or s (5 + i) 0) (small (5 + i) (omega arith))))
+      ∙ sym (row_is v i h) ∙ solves.null i h)
 
 -- ---- a line that differs in exactly n characters
 
@@ -185,41 +182,32 @@ module _ (w s l : List ℕ) (n : ℕ) (few : n ≤ 5) (long : length w ≡ 63) (
         sym (row-combined q' (omega arith) (λ k g. q-past k (omega arith)) i h) ∙ dot_same n (at m i) (entry q') q (first_get n q past) ∙ null i h)
         k
 
-    module _ (functions : Solution) (solves : Solves n m functions) where
-      pub solved : functions.found ≡ true
-      solved = true_of_not_false functions.found (λ z. solves.singular z sums_regular)
-
-      p : List ℕ
-      p = functions.unknowns
-
+    module _ (p : List ℕ) (solves : Solution n m p) where
       p-monic : Monic p n
-      unfolding p
-      p-monic = record { top = solves.top solved; past = solves.past solved; small = solves.small }
+      p-monic = record { top = solves.top; past = solves.past; small = solves.small }
 
       p-zeros : Zeros (weighted p e xs)
-      unfolding p
       p-zeros =
           locates p xs e n (64 - n) xs-good e-values (le_of_eq e-weight)
-          (λ i h. sym (row-combined p (le_of_eq solves.long) p-monic.past i h) ∙ solves.null solved i h)
+          (λ i h. sym (row-combined p (le_of_eq solves.long) p-monic.past i h) ∙ solves.null i h)
 
       -- ---- the error locations
 
-      module _ (located : Locations) (finds : Finds functions.unknowns n located) where
-        pub found : located.found ≡ true
-        unfolding p
-        found = true_of_not_false located.found (λ z. finds.none z (supported e xs) (split_supported e xs xs-good e-values p n p-monic e-weight p-zeros))
+      pub located : Finds p n None → ⊥
+      located finds = finds.none refl (supported e xs) (split_supported e xs xs-good e-values p n p-monic e-weight p-zeros)
 
+      module _ (roots : List ℕ) (finds : Finds p n (Some roots)) where
         rs : List ℕ
-        rs = drop (5 - n) located.roots
+        rs = drop (5 - n) roots
 
         rs-split : Split p n rs
-        unfolding p rs
-        rs-split = finds.split found p-monic
+        unfolding rs
+        rs-split = finds.split roots refl p-monic
 
         -- ---- the line
 
-        module _ (m' : List (List ℕ)) (rows' : PowerRows located.roots s n m') (magnitudes : Solution) (solves' : Solves n m' magnitudes) (r : List ℕ)
-            (corrects : Corrects w located.roots magnitudes.unknowns n r) where
+        module _ (m' : List (List ℕ)) (rows' : PowerRows roots s n m') (magnitudes : List ℕ) (solves' : Solution n m' magnitudes) (r : List ℕ)
+            (corrects : Corrects w roots magnitudes n r) where
           d : List ℕ
           d = added r l
 
@@ -248,7 +236,7 @@ module _ (w s l : List ℕ) (n : ℕ) (few : n ≤ 5) (long : length w ≡ 63) (
           r-sum j h =
               corrects.sums j
               ∙ ap (sum (power_sum j w))
-              (values_have located.roots s n few finds.long rs-split.places m' rows' magnitudes solves' s_small j h
+              (values_have roots s n few (finds.long roots refl) rs-split.places m' rows' magnitudes solves' s_small j h
               ∙ have.sum_at (5 + j) (omega arith)
               ∙ ap₂ sum (around j w) (sym (line_sums l line (5 + j) (omega arith)) ∙ around j l))
               ∙ Laws.sum_undo (power_sum j w) (power_sum j l)
@@ -266,7 +254,7 @@ module _ (w s l : List ℕ) (n : ℕ) (few : n ≤ 5) (long : length w ≡ 63) (
 
           -- where the polynomial is not 0, the word has no error and nothing was added
           d-at : (a : ℕ) → a < 63 → (poly_at p (get_or xs a 0) ≡ 0 → ⊥) → get_or d a 0 ≡ 0
-          unfolding d e xs rs p
+          unfolding d e xs rs
           d-at a h f =
               let x : ℕ = get_or (places 63) a 0 in
               let none : get_or (added w l) a 0 ≡ 0 =
@@ -275,7 +263,7 @@ module _ (w s l : List ℕ) (n : ℕ) (few : n ≤ 5) (long : length w ≡ 63) (
               in
               added_get r l r-long a
               ∙ ap (λ (v : ℕ). sum v (get_or l a 0))
-              (corrects.beside a h (fresh-root (drop (5 - n) located.roots) (power α (62 - a)) rs-split.zeros (subst (λ (t : ℕ). poly_at p t ≡ 0 → ⊥) (places_get 63 a h) f)))
+              (corrects.beside a h (fresh-root (drop (5 - n) roots) (power α (62 - a)) rs-split.zeros (subst (λ (t : ℕ). poly_at p t ≡ 0 → ⊥) (places_get 63 a h) f)))
               ∙ sym (added_get w l same_long a) ∙ none
 
           d-zeros : Zeros (weighted p d xs)

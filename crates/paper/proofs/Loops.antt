@@ -1,23 +1,20 @@
 -- What the loops of the paper's way do, a turn and a way out at a time, over plain variables: the sums and the two systems.
-use mathlib.Core.Path.{◌≡◌, refl, sym, ap, ap₂, ◌∙◌, subst}
-use mathlib.Core.Bool.{true, false}
+use mathlib.Core.Path.{◌≡◌, sym, ap, ap₂, ◌∙◌, subst}
 use mathlib.Core.List.{List, []}
-use Prim.Native.Nat.{ℕ, suc, ◌+◌, ◌-◌, ◌%◌, ◌<◌, ◌≤◌}
-use native.Mathlib.Numerals.{add-one}
+use Prim.Native.Nat.{ℕ, zero, suc, ◌+◌, ◌-◌, ◌%◌, ◌<◌, ◌≤◌}
+use native.Mathlib.Nat.{add-zero, zero-add}
 use native.Mathlib.Omega.{arith}
 use borrow.Author.Count.{below_none, below_more}
 use lib.Bits.{bit_xor}
+use Rattle.std.specs.List.{fold, range_with_len}
 use lib.ListN.{length, get_or, set, length-set}
 use lib.Seq.{get_or-set_same, get_or-set_other}
-use Rattle.refusal.specs.Promise.{Tells}
-use Rattle.refusal.proofs.Laws.{tells_yes, tells_no}
 use Rattle.field.specs.Field.{sum, product, α, power}
 use Rattle.polynomial.specs.Polynomial.{value_at}
 use Rattle.code.specs.Word.{power_sum, marks}
 use Rattle.code.specs.Inside.{PowerSums}
 use Rattle.code.proofs.Sums.{power_sum_value}
-use Rattle.code.proofs.Loops.{first_point, ValueTo, value_again, value_all}
-use Rattle.mender.specs.Found.{Clear}
+use Rattle.code.proofs.Loops.{first_point, value_by_fold}
 use Rattle.paper.specs.Inside.{ErrorsHave, SumRow, SumRows, PowerRow, PowerRows}
 
 -- ---- the power sums
@@ -65,55 +62,12 @@ summed_again w ms s x y v k t h e f =
 pub summed_all : (w ms s : List ℕ) (x k : ℕ) → SummedTo w ms s x k → 11 ≤ k → ErrorsHave w s
 summed_all w ms s x k t h = record { sum_at = λ i l. t.done i (omega arith) }
 
--- one turn of a circuit, as the code of words has it
-pub circuit_again : (w : List ℕ) (x v u a : ℕ) → ValueTo w x v a → length w ≡ 63 → a < 63 → u ≡ product v x → ValueTo w x (bit_xor u (get_or w a 0 % 64)) (a + 1)
+-- a circuit, as the code of words has it
+pub circuit_is : (w : List ℕ) (x v : ℕ) → v ≡ fold (λ v c. bit_xor (product v x) (c % 64)) 0 w → v ≡ value_at x w
 unfolding sum
-circuit_again w x v u a t l h e = value_again w x v u (bit_xor u (get_or w a 0 % 64)) a t (omega arith) e refl
-
-pub circuit_all : (w : List ℕ) (x v a : ℕ) → ValueTo w x v a → length w ≡ 63 → 63 ≤ a → v ≡ value_at x w
-circuit_all w x v a t l h = value_all w x v a t (omega arith)
-
--- ---- whether they are all 0
-
-pub record ZerosTo (s : List ℕ) (i : ℕ) : Type 0 where
-  pub most : i ≤ 11
-  pub passed : (k : ℕ) → k < i → get_or s k 0 ≡ 0
-
-pub zeros_none : (s : List ℕ) → ZerosTo s 0
-zeros_none s = record { most = omega arith; passed = below_none (λ k. get_or s k 0 ≡ 0) }
-
-pub zeros_again : (s : List ℕ) (i : ℕ) → ZerosTo s i → i < 11 → get_or s i 0 ≡ 0 → ZerosTo s (i + 1)
-zeros_again s i t h e = record { most = omega arith; passed = below_more (λ k. get_or s k 0 ≡ 0) i t.passed e }
-
-pub zeros_all : (s : List ℕ) (i : ℕ) → ZerosTo s i → 11 ≤ i → Tells (Clear s) true
-zeros_all s i t h = tells_yes (record { zero = λ k l. t.passed k (omega arith) })
-
-pub zeros_not : (s : List ℕ) (i : ℕ) → i < 11 → (get_or s i 0 ≡ 0 → ⊥) → Tells (Clear s) false
-zeros_not s i h d = tells_no (λ c. d (c.zero i h))
+circuit_is w x v e = value_by_fold w x v e
 
 -- ---- the system of the sums
-
-pub record RowTo (s : List ℕ) (j n : ℕ) (row : List ℕ) (k : ℕ) : Type 0 where
-  pub most : k ≤ n + 1
-  pub long : length row ≡ 6
-  pub done : (i : ℕ) → i < k → get_or row i 0 ≡ get_or s (j + i) 0
-
-pub row_none : (s : List ℕ) (j n : ℕ) (row : List ℕ) → length row ≡ 6 → RowTo s j n row 0
-row_none s j n row l = record { most = omega arith; long = l; done = below_none (λ i. get_or row i 0 ≡ get_or s (j + i) 0) }
-
-pub row_again : (s : List ℕ) (j n : ℕ) (row : List ℕ) (k : ℕ) → (n ≤ 5) × (j + n < 11) → RowTo s j n row k → k ≤ n → RowTo s j n (set row k (get_or s (j + k) 0)) (k + 1)
-row_again s j n row k b t h =
-    record {
-      most = omega arith;
-      long = length-set row k (get_or s (j + k) 0) ∙ t.long;
-      done =
-          below_more (λ i. get_or (set row k (get_or s (j + k) 0)) i 0 ≡ get_or s (j + i) 0) k
-          (λ i l. get_or-set_other row k i (get_or s (j + k) 0) 0 (λ q. omega arith) ∙ t.done i l)
-          (get_or-set_same row k (get_or s (j + k) 0) 0 (let few = b.0 in omega (arith, t.long)));
-    }
-
-pub row_all : (s : List ℕ) (j n : ℕ) (row : List ℕ) (k : ℕ) → RowTo s j n row k → n < k → SumRow s j n row
-row_all s j n row k t h = record { entry = λ i l. t.done i (omega arith) }
 
 pub record RowsTo (s : List ℕ) (n : ℕ) (m : List (List ℕ)) (i : ℕ) : Type 0 where
   pub most : i ≤ n
@@ -124,7 +78,8 @@ pub record RowsTo (s : List ℕ) (n : ℕ) (m : List (List ℕ)) (i : ℕ) : Typ
 pub rows_none : (s : List ℕ) (n : ℕ) (m : List (List ℕ)) → n ≤ 5 → length m ≡ 5 → RowsTo s n m 0
 rows_none s n m few l = record { most = omega arith; few = few; long = l; done = below_none (λ j. SumRow s (6 - n + j) n (get_or m j [])) }
 
-pub rows_again : (s : List ℕ) (n : ℕ) (m : List (List ℕ)) (i : ℕ) (row : List ℕ) → RowsTo s n m i → i < n → SumRow s (6 - n + i) n row → RowsTo s n (set m i row) (i + 1)
+pub rows_again : (s : List ℕ) (n : ℕ) (m : List (List ℕ)) (i : ℕ) (row : List ℕ) → RowsTo s n m i → i < n
+    → SumRow s (6 - n + i) n row → RowsTo s n (set m i row) (i + 1)
 rows_again s n m i row t h r =
     record {
       most = omega arith;
@@ -141,16 +96,15 @@ rows_all s n m i t h = record { row = λ j l. t.done j (omega arith) }
 
 -- ---- the system of the powers
 
-pub raised_none : (x : ℕ) → 1 ≡ power x 0
+-- from x to the power i on
+raised_from : (x i s j : ℕ) → fold (λ v k. product x v) (power x i) (range_with_len s j) ≡ power x (j + i)
 unfolding power
-raised_none x = refl
+raised_from x i s zero = ap (power x) (sym (zero-add i))
+raised_from x i s (suc j) = raised_from x (suc i) (s + 1) j ∙ ap (power x) (let same : j + suc i ≡ suc j + i = omega arith in same)
 
-pub raised_again : (x v k t : ℕ) → v ≡ power x k → t ≡ product x v → t ≡ power x (k + 1)
+pub raised_is : (x v j : ℕ) → v ≡ fold (λ v k. product x v) 1 (range_with_len 0 j) → v ≡ power x j
 unfolding power
-raised_again x v k t e d = d ∙ ap (product x) e ∙ sym (ap (power x) (add-one k))
-
-pub raised_all : (x v k j : ℕ) → k ≤ j → j ≤ k → v ≡ power x k → v ≡ power x j
-raised_all x v k j a b e = e ∙ ap (power x) (let same : k ≡ j = omega arith in same)
+raised_is x v j e = e ∙ raised_from x 0 0 j ∙ ap (power x) (add-zero j)
 
 pub record PowerTo (xs : List ℕ) (s n i : ℕ) (row : List ℕ) (k : ℕ) : Type 0 where
   pub most : k ≤ n

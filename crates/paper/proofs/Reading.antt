@@ -1,34 +1,32 @@
 -- The ways out of an attempt, of the loop over the number of errors, and of reading.
 use mathlib.Core.Path.{◌≡◌, refl, sym, ap, ◌∙◌, subst}
-use mathlib.Core.Bool.{Bool, true, false, not, true≢false}
+use mathlib.Core.Bool.{Bool, true, false, not}
 use mathlib.Core.Logic.{⊎_elim}
 use mathlib.Core.List.{List}
 use Prim.Native.Nat.{ℕ, min, ◌+◌, ◌-◌, ◌<◌, ◌≤◌}
 use native.Mathlib.Omega.{arith}
+use lib.ListN.{length, drop}
 use borrow.Author.Tests.{not-false}
-use lib.ListN.{length, drop, replicate}
-use Rattle.numbers.proofs.Cases.{same_or_not, true_of_not_false}
+use Rattle.std.specs.Prelude.{Option, Some, None}
+use Rattle.numbers.proofs.Cases.{same_or_not}
 use Rattle.refusal.specs.Promise.{Tells}
 use Rattle.field.specs.Field.{sum}
 use Rattle.field.proofs.Laws
 use Rattle.polynomial.specs.Sums.{Places}
 use Rattle.polynomial.specs.Polynomial.{Elements}
+use Rattle.polynomial.specs.Roots.{Split}
 use Rattle.code.specs.Word.{Characters, power_sum, marks, Line, distance, first_changed, last_changed}
 use Rattle.code.proofs.Lines.{line_sums, sums_line}
 use Rattle.mender.specs.declared.Mended.{Mended}
 use Rattle.mender.specs.Mender.{Word, Nearest}
 use Rattle.mender.specs.Found.{Clear}
-use Rattle.matrix.specs.declared.Solution.{Solution}
-use Rattle.matrix.specs.System.{Solves}
-use Rattle.locations.specs.declared.Locations.{Locations}
+use Rattle.matrix.specs.System.{Solution, Solves}
 use Rattle.locations.specs.Roots.{Finds}
-use Rattle.line.specs.declared.Wanted.{Wanted}
 use Rattle.line.specs.Promises.{Reads}
 use Rattle.line.specs.Inside.{Fit, Answers}
-use Rattle.line.proofs.Reading.{answered_reads}
-use Rattle.paper.specs.declared.Tried.{Tried}
-use Rattle.paper.specs.Inside.{ErrorsHave, SumRows, PowerRows, Corrects, Attempts}
-use Rattle.paper.proofs.Assumed.{solved, found, the_line}
+use Rattle.line.proofs.Ways.{reads_long, answered_reads}
+use Rattle.paper.specs.Inside.{ErrorsHave, SumRows, PowerRows, Corrects, Attempted, NoneApart}
+use Rattle.paper.proofs.Assumed.{powers_regular, sums_regular, located, the_line}
 
 -- ---- the recheck
 
@@ -47,64 +45,67 @@ line_by_zeros r s b long characters have clear =
 -- ---- an attempt
 
 -- n is at most 5, so it counts whole
-whole : (n : ℕ) (m : List (List ℕ)) (f : Solution) → n ≤ 5 → Solves (min n 5) m f → Solves n m f
-whole n m f few = subst (λ (k : ℕ). Solves k m f) (let e : min n 5 ≡ n = omega arith in e)
+whole : (n : ℕ) (m : List (List ℕ)) (r : Option (List ℕ)) → n ≤ 5 → Solves (min n 5) m r → Solves n m r
+whole n m r few = subst (λ (k : ℕ). Solves k m r) (let e : min n 5 ≡ n = omega arith in e)
 
 module _ (w s : List ℕ) (n : ℕ) (few : n ≤ 5) (word : Word w) (have : ErrorsHave w s) where
-  module _ (m : List (List ℕ)) (rows : SumRows s n m) (functions : Solution) (solves : Solves (min n 5) m functions) where
-    missed : (r : Tried) → r.found ≡ false → ((l : List ℕ) → Line l → distance w l ≡ n → ⊥) → Attempts w n r
-    missed r q never =
+  module _ (m : List (List ℕ)) (rows : SumRows s n m) where
+    pub unsolved : Solves (min n 5) m None → NoneApart w n
+    unsolved solves =
         record {
-          line = λ z. absurd (true≢false (sym z ∙ q));
-          near = λ z. absurd (true≢false (sym z ∙ q));
-          exact = λ l line apart. absurd (never l line apart);
+          none = λ l line apart. (whole n m None few solves).singular refl (sums_regular w s l n few word.long word.characters have line apart m rows);
         }
 
-    pub unsolved : functions.found ≡ false → Attempts w n (record { found = false; line = w })
-    unsolved q =
-        missed (record { found = false; line = w }) refl
-        (λ l line apart.
-        true≢false (sym (solved w s l n few word.long word.characters have line apart m rows functions (whole n m functions few solves)) ∙ q))
+    module _ (p : List ℕ) (solves : Solves (min n 5) m (Some p)) where
+      solution : Solution n m p
+      solution = (whole n m (Some p) few solves).found p refl
 
-    module _ (located : Locations) (finds : Finds functions.unknowns n located) where
-      pub unlocated : located.found ≡ false → Attempts w n (record { found = false; line = w })
-      unlocated q =
-          missed (record { found = false; line = w }) refl
-          (λ l line apart.
-          true≢false
-          (sym (found w s l n few word.long word.characters have line apart m rows functions (whole n m functions few solves) located finds) ∙ q))
+      pub unlocated : Finds p n None → NoneApart w n
+      unlocated finds =
+          record { none = λ l line apart. located w s l n few word.long word.characters have line apart m rows p solution finds }
 
-      module _ (m' : List (List ℕ)) (rows' : PowerRows located.roots s n m') (magnitudes : Solution) (solves' : Solves (min n 5) m' magnitudes) (r : List ℕ)
-          (corrects : Corrects w located.roots magnitudes.unknowns n r) (again : List ℕ) (have' : ErrorsHave r again) (b : Bool) (clear : Tells (Clear again) b) where
-        tells : Tells (Line r) b
-        tells = line_by_zeros r again b corrects.long corrects.characters have' clear
+      module _ (roots : List ℕ) (finds : Finds p n (Some roots)) where
+        split : Split p n (drop (5 - n) roots)
+        split = finds.split roots refl (record { top = solution.top; past = solution.past; small = solution.small })
 
-        pub rechecked : Attempts w n (record { found = b; line = r })
-        rechecked =
-            record {
-              line = tells.holds;
-              near = λ _. corrects.near;
-              exact = λ l line apart.
-                  true_of_not_false b
-                  (λ q.
-                  tells.fails q
-                  (subst Line
-                  (sym
-                  (the_line w s l n few word.long word.characters have line apart m rows functions (whole n m functions few solves) located finds m' rows' magnitudes
-                  (whole n m' magnitudes few solves') r corrects))
-                  line));
-            }
+        -- what was found are places
+        pub roots_places : Places (drop (5 - n) roots)
+        roots_places = split.places
 
--- what was found are places
-pub roots_places : (m : List (List ℕ)) (n : ℕ) (functions : Solution) (located : Locations) → n ≤ 5 → Solves (min n 5) m functions → functions.found ≡ true
-    → Finds functions.unknowns n located → located.found ≡ true → Places (drop (5 - n) located.roots)
-roots_places m n functions located few solves q finds z =
-    let s = whole n m functions few solves in
-    (finds.split z (record { top = s.top q; past = s.past q; small = s.small })).places
+        module _ (m' : List (List ℕ)) (rows' : PowerRows roots s n m') where
+          -- so that there are magnitudes
+          pub measured : Solves (min n 5) m' None → NoneApart w n
+          measured solves' =
+              record {
+                none = λ l line apart.
+                    (whole n m' None few solves').singular refl (powers_regular roots s n few (finds.long roots refl) roots_places m' rows');
+              }
 
--- and what stands for the magnitudes are elements
-pub values_elements : (m : List (List ℕ)) (n : ℕ) (magnitudes : Solution) → Solves (min n 5) m magnitudes → Elements magnitudes.unknowns
-values_elements m n magnitudes solves = solves.small
+          module _ (vs : List ℕ) (solves' : Solves (min n 5) m' (Some vs)) where
+            values : Solution n m' vs
+            values = (whole n m' (Some vs) few solves').found vs refl
+
+            -- and these are elements
+            pub values_elements : Elements vs
+            values_elements = values.small
+
+            module _ (r : List ℕ) (corrects : Corrects w roots vs n r) (again : List ℕ) (have' : ErrorsHave r again) (b : Bool)
+                (clear : Tells (Clear again) b) where
+              tells : Tells (Line r) b
+              tells = line_by_zeros r again b corrects.long corrects.characters have' clear
+
+              pub rechecked : b ≡ true → Attempted w n r
+              rechecked q = record { line = tells.holds q; near = corrects.near }
+
+              pub no_line : b ≡ false → NoneApart w n
+              no_line q =
+                  record {
+                    none = λ l line apart.
+                        tells.fails q
+                        (subst Line
+                        (sym (the_line w s l n few word.long word.characters have line apart m rows p solution roots finds m' rows' vs values r corrects))
+                        line);
+                  }
 
 -- ---- the loop over the number of errors
 
@@ -115,53 +116,35 @@ pub record MissedTo (w : List ℕ) (n : ℕ) : Type 0 where
 pub missed_none : (w : List ℕ) → MissedTo w 0
 missed_none w = record { none = λ l line h. omega arith }
 
-pub missed_more : (w : List ℕ) (n : ℕ) (r : Tried) → Attempts w n r → r.found ≡ false → MissedTo w n → MissedTo w (n + 1)
-missed_more w n r a q t =
+pub missed_more : (w : List ℕ) (n : ℕ) → NoneApart w n → MissedTo w n → MissedTo w (n + 1)
+missed_more w n a t =
     record {
       none = λ l line h.
-          ⊎_elim (λ (e : distance w l ≡ n). true≢false (sym (a.exact l line e) ∙ q)) (λ (d : distance w l ≡ n → ⊥). t.none l line (omega (arith, d)))
-          (same_or_not (distance w l) n);
+          ⊎_elim (λ (e : distance w l ≡ n). a.none l line e) (λ (d : distance w l ≡ n → ⊥). t.none l line (omega (arith, d))) (same_or_not (distance w l) n);
     }
 
-pub nearest_found : (w : List ℕ) (t n : ℕ) (r : Tried) (first last : ℕ) → Word w → n ≤ t → MissedTo w n → Attempts w n r → r.found ≡ true
-    → first ≡ first_changed w r.line → last ≡ last_changed w r.line
-    → Nearest Line w t (record { found = true; weight = n; first = first; last = last; word = r.line })
-nearest_found w t n r first last word h missed a q ef el =
+pub nearest_found : (w : List ℕ) (t n : ℕ) (l : List ℕ) (first last : ℕ) → Word w → n ≤ t → MissedTo w n → Attempted w n l
+    → first ≡ first_changed w l → last ≡ last_changed w l
+    → Nearest Line w t (Some (record { weight = n; first = first; last = last; word = l }))
+nearest_found w t n l first last word h missed a ef el =
     record {
-      of_word = λ _. word;
-      is = λ _. a.line q;
-      apart = λ _. same (λ g. missed.none r.line (a.line q) g) (a.near q);
-      within = λ _. h;
-      ends = λ _. record { from = ef; to = el };
-      none = λ z. absurd (true≢false z);
-      no_weight = λ z. absurd (true≢false z);
-      no_first = λ z. absurd (true≢false z);
-      no_last = λ z. absurd (true≢false z);
-      no_word = λ z. absurd (true≢false z);
+      of_word = word;
+      is = a.line;
+      apart = same (missed.none l a.line) a.near;
+      within = h;
+      ends = record { from = ef; to = el };
     }
   where
-    same : (distance w r.line < n → ⊥) → distance w r.line ≤ n → n ≡ distance w r.line
-    same f g = ⊎_elim (λ (e : distance w r.line ≡ n). sym e) (λ (d : distance w r.line ≡ n → ⊥). absurd (f (omega (arith, d)))) (same_or_not (distance w r.line) n)
+    same : (distance w l < n → ⊥) → distance w l ≤ n → n ≡ distance w l
+    same f g = ⊎_elim (λ (e : distance w l ≡ n). sym e) (λ (d : distance w l ≡ n → ⊥). absurd (f (omega (arith, d)))) (same_or_not (distance w l) n)
 
-pub nearest_none : (w : List ℕ) (t n : ℕ) → t < n → MissedTo w n → Nearest Line w t (record { found = false; weight = 0; first = 0; last = 0; word = replicate 63 0 })
-nearest_none w t n h missed =
-    record {
-      of_word = λ z. absurd (true≢false (sym z));
-      is = λ z. absurd (true≢false (sym z));
-      apart = λ z. absurd (true≢false (sym z));
-      within = λ z. absurd (true≢false (sym z));
-      ends = λ z. absurd (true≢false (sym z));
-      none = λ _ _ l line g. missed.none l line (omega arith);
-      no_weight = λ _. refl;
-      no_first = λ _. refl;
-      no_last = λ _. refl;
-      no_word = λ _. refl;
-    }
+pub nearest_none : (w : List ℕ) (t n : ℕ) → t < n → MissedTo w n → Nearest Line w t None
+nearest_none w t n h missed = record { none = λ _ l line g. missed.none l line (omega arith) }
 
 -- ---- reading
 
 -- the word as it is held, where the tests before reading hold
-module _ (w : List ℕ) (t : ℕ) (wanted : Wanted) (room : ℕ) (b : Bool) (fits : Tells (Fit w t wanted room) b) (q : not b ≡ false) where
+module _ (w : List ℕ) (t : ℕ) (wanted : Option ℕ) (room : ℕ) (b : Bool) (fits : Tells (Fit w t wanted room) b) (q : not b ≡ false) where
   fit : Fit w t wanted room
   fit = fits.holds (not-false b q)
 
@@ -172,10 +155,15 @@ module _ (w : List ℕ) (t : ℕ) (wanted : Wanted) (room : ℕ) (b : Bool) (fit
     pub held_word : Word v
     held_word = record { long = ap length same ∙ fit.long; characters = subst Characters (sym same) fit.characters }
 
-    pub read_nearest : (old : List ℕ) → room ≡ length old → (m : Mended) (numbers new : List ℕ) → Nearest Line v t m → Answers m wanted old numbers new
+    pub read_nearest : (old : List ℕ) → room ≡ length old → (m : Option Mended) (numbers new : List ℕ) → Nearest Line v t m → Answers m wanted old numbers new
         → Reads w t wanted old numbers new
     read_nearest old r m numbers new near =
         answered_reads w t wanted old (subst (Fit w t wanted) r fit) m
         (subst (λ (k : ℕ). Nearest Line w k m) (let whole : t ≡ min t 5 = (let h = fit.near in omega arith) in whole)
         (subst (λ (u : List ℕ). Nearest Line u t m) same near))
         numbers new
+
+    -- and the output keeps its length
+    pub read_long : (old : List ℕ) → room ≡ length old → (m : Option Mended) (numbers new : List ℕ) → Nearest Line v t m → Answers m wanted old numbers new
+        → length new ≡ length old
+    read_long old r m numbers new near a = reads_long w t wanted old numbers new (read_nearest old r m numbers new near a)

@@ -1,11 +1,9 @@
 -- What the steps of the paper's way promise each other: the sums, the two systems, the corrected word, and an attempt at n errors.
-use Rattle.std.specs.Prelude.{◌≡◌, true, List, [], ℕ, ◌+◌, ◌-◌, ◌<◌, ◌≤◌, length, get_or, drop}
+use Rattle.std.specs.Prelude.{◌≡◌, Option, Some, None, List, [], ℕ, ◌+◌, ◌-◌, ◌<◌, ◌≤◌, length, get_or, drop}
 use Rattle.numbers.specs.Total.{total}
 use Rattle.field.specs.Field.{sum, product, α, power}
 use Rattle.polynomial.specs.Sums.{Fresh}
 use Rattle.code.specs.Word.{Characters, power_sum, marks, Line, distance}
-use Rattle.matrix.specs.System.{at}
-use Rattle.paper.specs.declared.Tried.{Tried}
 
 -- eleven sums of what w and any line differ by, S_-5 first: a line has the sums of the marks
 pub record ErrorsHave (w s : List ℕ) : Type 0 where
@@ -36,8 +34,16 @@ pub record Corrects (w xs vs : List ℕ) (n : ℕ) (r : List ℕ) : Type 0 where
   pub sums : (j : ℕ) → power_sum j r ≡ sum (power_sum j w) (total n (λ k. product (get_or vs k 0) (power (get_or xs (5 - n + k) 0) j)))
   pub beside : (a : ℕ) → a < 63 → Fresh (power α (62 - a)) (drop (5 - n) xs) → get_or r a 0 ≡ get_or w a 0
 
--- what is found is a line within n; and a line that differs in exactly n characters is found
-pub record Attempts (w : List ℕ) (n : ℕ) (r : Tried) : Type 0 where
-  pub line : r.found ≡ true → Line r.line
-  pub near : r.found ≡ true → distance w r.line ≤ n
-  pub exact : (l : List ℕ) → Line l → distance w l ≡ n → r.found ≡ true
+-- what is found is a line within n
+pub record Attempted (w : List ℕ) (n : ℕ) (l : List ℕ) : Type 0 where
+  pub line : Line l
+  pub near : distance w l ≤ n
+
+-- no line differs in exactly n characters
+pub record NoneApart (w : List ℕ) (n : ℕ) : Type 0 where
+  pub none : (l : List ℕ) → Line l → distance w l ≡ n → ⊥
+
+-- a line that differs in exactly n characters is found
+abbrev pub Attempts : List ℕ → ℕ → Option (List ℕ) → Type 0
+Attempts w n (Some l) = Attempted w n l
+Attempts w n None = NoneApart w n

@@ -1,4 +1,5 @@
-// Reading a line as the control processor of 1968 did, in the order and the words of 001: a number of errors is assumed, two square systems are solved for it, and the line is rechecked.
+// Reading a line as the control processor of 1968 did, in the order and the words of 001: a number of errors is assumed, two square systems are solved
+// for it, and the line is rechecked.
 #![tactic(auto)]
 
 ghost use Rattle.std.specs.Prelude.{◌≡◌, ◌+◌, ◌-◌, ◌<◌, ◌≤◌, length, drop};
@@ -12,8 +13,9 @@ ghost use Rattle.mender.specs.Found.{Clear};
 ghost use Rattle.line.specs.Promises.{reading_numbers, Reads};
 ghost use Rattle.paper.specs.Inside.{ErrorsHave, SumRow, SumRows, PowerRow, PowerRows, Corrects, Attempts};
 
-use line::{LineReading, Wanted};
+use line::Reading;
 use mender::{Mended, NOWHERE};
+use refusal::Refusal;
 
 // The most errors that are assumed.
 const MOST: usize = 5;
@@ -29,21 +31,19 @@ const ALPHA: u8 = 2;
 // The power -5 of α.
 const FIRST_POINT: u8 = 63;
 
-// A line that was tried.
-#[derive(Clone, Copy)]
-struct Tried {
-    found: bool,
-    line: [u8; 63],
-}
-
 // Reads a line: every answer and every output is that of `line::read_line`.
-pub fn read_line(word: &[u8], radius: u8, wanted: Wanted, output: &mut [u8]) -> LineReading
+pub fn read_line(
+    word: &[u8],
+    radius: u8,
+    wanted: Option<u16>,
+    output: &mut [u8],
+) -> Result<Reading, Refusal>
     ensures { Reads word.now radius wanted output.old (reading_numbers result) output.new }
 {
     if !line::fits(word, output.len(), radius, wanted) {
-        return LineReading::Refused(line::first_refusal(word, output.len(), radius, wanted));
+        return Err(line::first_refusal(word, output.len(), radius, wanted));
     }
-    let found = nearest(held(word), radius as usize);
+    let found = nearest(held(word), radius);
     line::answered(found, wanted, output)
 }
 
@@ -53,80 +53,107 @@ fn held(word: &[u8]) -> [u8; 63]
     ensures { result ≡ word.now }
 {
     let mut buffer = [0u8; 63];
-    copying::copy(word, &mut buffer);
+    buffer.copy_from_slice(word);
     buffer
 }
 
 // 001: "In the procedure used here, no attempt is made to determine the number of characters in error. Instead, it is assumed that only one character is
 // in error and thus single error correction is required. [..] Similarly, if single error correction has failed, the process can then be continued by
 // progressively assuming two, three, four, and five errors." The first assumption is none: the line as it was read.
-fn nearest(word: [u8; 63], radius: usize) -> Mended
+fn nearest(word: [u8; 63], radius: u8) -> Option<Mended>
     requires word { Word word }
     requires radius_bound { radius ≤ 5 }
     ensures { Nearest Line word radius result }
 {
     let sums = power_sums(word);
-    let mut n: usize = 0;
-    while n <= radius {
-        let tried = attempt(word, sums, n);
-        if tried.found {
-            let line = tried.line;
+    for n in 0..=radius {
+        let assumption = Assumption {
+            word,
+            sums,
+            n: usize::from(n),
+        };
+        if let Some(line) = assumption.attempt() {
             let first = first_changed(word, line);
             let last = last_changed(word, line);
-            return Mended {
-                found: true,
-                weight: n as u8,
-                first: first,
-                last: last,
+            return Some(Mended {
+                weight: n,
+                first,
+                last,
                 word: line,
-            };
+            });
         }
-        n += 1;
     }
-    Mended {
-        found: false,
-        weight: 0,
-        first: 0,
-        last: 0,
-        word: [0u8; 63],
-    }
+    None
 }
 
-// 001: "the process which attempts to find the errors may be terminated due to inability to find a solution for the error locations from the elementary
-// symmetric functions."
-fn attempt(word: [u8; 63], sums: [u8; 11], n: usize) -> Tried
-    requires n_bound { n ≤ 5 }
-    requires word { Word word }
-    requires errors_have { ErrorsHave word sums }
-    ensures { Attempts word n result }
-{
-    // "In multiple-error correction, the elementary symmetric functions are obtained from the power sums using a matrix-solving program."
-    let functions = matrix::solved(sum_rows(sums, n), n);
-    if !functions.found {
-        return Tried {
-            found: false,
-            line: word,
-        };
+// A number of errors that is assumed of a word: at most five, and the power sums of what the word and a line differ by.
+#[derive(Clone, Copy)]
+struct Assumption {
+    word: [u8; 63],
+    sums: [u8; 11],
+    n: usize,
+    ghost held: { Word word },
+    ghost have: { ErrorsHave word sums },
+    ghost few: { n ≤ 5 },
+}
+
+impl Assumption {
+    // 001: "the process which attempts to find the errors may be terminated due to inability to find a solution for the error locations from the
+    // elementary symmetric functions."
+    fn attempt(self) -> Option<[u8; 63]>
+        ensures { Attempts self.word self.n result }
+    {
+        // "In multiple-error correction, the elementary symmetric functions are obtained from the power sums using a matrix-solving program."
+        let polynomial = matrix::solved(self.sum_rows(), self.n)?;
+        // "The error locations are next obtained from the elementary symmetric functions by trial and error using synthetic division and by direct
+        // solution of the quadratic."
+        let places = locations::roots_of(polynomial, self.n)?;
+        // "The error magnitudes are then found from the error locations using the matrix solving program." Locations that differ have one solution.
+        let magnitudes = matrix::solved(self.power_rows(places), self.n)?;
+        let line = self.corrected(places, magnitudes);
+        // "After all of the corrections have been made, the line must be rechecked by recomputing the power sums."
+        if !all_zero(power_sums(line)) {
+            return None;
+        }
+        Some(line)
     }
-    // "The error locations are next obtained from the elementary symmetric functions by trial and error using synthetic division and by direct
-    // solution of the quadratic."
-    let polynomial = functions.unknowns;
-    let located = locations::roots_of(polynomial, n);
-    if !located.found {
-        return Tried {
-            found: false,
-            line: word,
-        };
+
+    // The equations that relate the elementary symmetric functions to the power sums S_(1-n) to S_n: "Two power sums are required per error to be
+    // corrected." For one error it is S_0 times the location, and S_1, that add up to 0, as in equation (3).
+    fn sum_rows(self) -> [[u8; 6]; 5]
+        ensures { SumRows self.sums self.n result }
+    {
+        let mut m = [[0u8; 6]; MOST];
+        for i in 0..self.n {
+            m[i] = sum_row(self.sums, S_1 - self.n + i, self.n);
+        }
+        m
     }
-    // "The error magnitudes are then found from the error locations using the matrix solving program." Locations that differ have one solution.
-    let places = located.roots;
-    let magnitudes = matrix::solved(power_rows(places, sums, n), n);
-    let values = magnitudes.unknowns;
-    let line = corrected(word, places, values, n);
-    // "After all of the corrections have been made, the line must be rechecked by recomputing the power sums."
-    Tried {
-        found: all_zero(power_sums(line)),
-        line: line,
+
+    // The equations that relate the magnitudes to the power sums S_0 to S_(n-1): the sum S_i is that of each magnitude times its location's power i.
+    fn power_rows(self, places: [u8; 5]) -> [[u8; 6]; 5]
+        ensures { PowerRows places self.sums self.n result }
+    {
+        let mut m = [[0u8; 6]; MOST];
+        for i in 0..self.n {
+            m[i] = power_row(places, self.sums[S_0 + i], self.n, i);
+        }
+        m
+    }
+
+    // Adds each magnitude at its address, which by equation (3) is 62 less the logarithm of its location. 001: "In the control processor the magnitude
+    // of the error is subtracted in Galois field arithmetic, and the corrected character is transmitted back into its place in the buffer".
+    fn corrected(self, places: [u8; 5], magnitudes: [u8; 6]) -> [u8; 63]
+        requires elements { Elements magnitudes }
+        requires places { Places (drop (5 - self.n) places) }
+        ensures { Corrects self.word places magnitudes self.n result }
+    {
+        let mut line = self.word;
+        for k in 0..self.n {
+            let address = 62 - usize::from(places::log_of(places[MOST - self.n + k]));
+            line[address] ^= magnitudes[k];
+        }
+        line
     }
 }
 
@@ -138,11 +165,9 @@ fn power_sums(word: [u8; 63]) -> [u8; 11]
     let marks = code::mark_sums();
     let mut sums = [0u8; 11];
     let mut x = FIRST_POINT;
-    let mut k: usize = 0;
-    while k < 11 {
-        sums[k] = circuit(word, x) ^ marks[k];
+    for (k, sum) in sums.iter_mut().enumerate() {
+        *sum = circuit(word, x) ^ marks[k];
         x = places::times(ALPHA, x);
-        k += 1;
     }
     sums
 }
@@ -151,43 +176,15 @@ fn power_sums(word: [u8; 63]) -> [u8; 11]
 fn circuit(word: [u8; 63], x: u8) -> u8
     ensures { result ≡ value_at x word }
 {
-    let mut v: u8 = 0;
-    let mut a: usize = 0;
-    while a < 63 {
-        v = places::times(v, x) ^ word[a] % 64;
-        a += 1;
-    }
-    v
+    word.iter().fold(0, |v, c| places::times(v, x) ^ *c % 64)
 }
 
 // 001: "If they are all zero and the line number is correct, the line is considered to be corrected."
+// Beside mender's, which tests sums packed in one number: a circuit has its own.
 fn all_zero(sums: [u8; 11]) -> bool
     ensures { Tells (Clear sums) result }
 {
-    let mut i: usize = 0;
-    while i < 11 {
-        if sums[i] != 0 {
-            return false;
-        }
-        i += 1;
-    }
-    true
-}
-
-// The equations that relate the elementary symmetric functions to the power sums S_(1-n) to S_n: "Two power sums are required per error to be
-// corrected." For one error it is S_0 times the location, and S_1, that add up to 0, as in equation (3).
-fn sum_rows(sums: [u8; 11], n: usize) -> [[u8; 6]; 5]
-    requires { n ≤ 5 }
-    ensures { SumRows sums n result }
-{
-    let mut m = [[0u8; 6]; MOST];
-    let mut i: usize = 0;
-    while i < n {
-        let row = sum_row(sums, S_1 - n + i, n);
-        m[i] = row;
-        i += 1;
-    }
-    m
+    sums.iter().all(|sum| *sum == 0)
 }
 
 // n + 1 power sums in a row.
@@ -196,27 +193,8 @@ fn sum_row(sums: [u8; 11], first: usize, n: usize) -> [u8; 6]
     ensures { SumRow sums first n result }
 {
     let mut row = [0u8; 6];
-    let mut k: usize = 0;
-    while k <= n {
-        row[k] = sums[first + k];
-        k += 1;
-    }
+    row[..n + 1].copy_from_slice(&sums[first..first + n + 1]);
     row
-}
-
-// The equations that relate the magnitudes to the power sums S_0 to S_(n-1): the sum S_i is that of each magnitude times its location's power i.
-fn power_rows(places: [u8; 5], sums: [u8; 11], n: usize) -> [[u8; 6]; 5]
-    requires { n ≤ 5 }
-    ensures { PowerRows places sums n result }
-{
-    let mut m = [[0u8; 6]; MOST];
-    let mut i: usize = 0;
-    while i < n {
-        let row = power_row(places, sums[S_0 + i], n, i);
-        m[i] = row;
-        i += 1;
-    }
-    m
 }
 
 // The powers i of the last n places, and a sum after them.
@@ -226,10 +204,8 @@ fn power_row(places: [u8; 5], sum: u8, n: usize, i: usize) -> [u8; 6]
 {
     let mut row = [0u8; 6];
     row[n] = sum;
-    let mut k: usize = 0;
-    while k < n {
+    for k in 0..n {
         row[k] = raised(places[MOST - n + k], i);
-        k += 1;
     }
     row
 }
@@ -238,44 +214,18 @@ fn power_row(places: [u8; 5], sum: u8, n: usize, i: usize) -> [u8; 6]
 fn raised(x: u8, j: usize) -> u8
     ensures { result ≡ power x j }
 {
-    let mut v: u8 = 1;
-    let mut k: usize = 0;
-    while k < j {
-        v = places::times(x, v);
-        k += 1;
-    }
-    v
+    (0..j).fold(1, |v, _| places::times(x, v))
 }
 
-// Adds each magnitude at its address, which by equation (3) is 62 less the logarithm of its location. 001: "In the control processor the magnitude of
-// the error is subtracted in Galois field arithmetic, and the corrected character is transmitted back into its place in the buffer".
-fn corrected(word: [u8; 63], places: [u8; 5], magnitudes: [u8; 6], n: usize) -> [u8; 63]
-    requires n_bound { n ≤ 5 }
-    requires word { Word word }
-    requires elements { Elements magnitudes }
-    requires places { Places (drop (5 - n) places) }
-    ensures { Corrects word places magnitudes n result }
-{
-    let mut line = word;
-    let mut k: usize = 0;
-    while k < n {
-        let address = 62 - places::log_of(places[MOST - n + k]) as usize;
-        line[address] = line[address] ^ magnitudes[k];
-        k += 1;
-    }
-    line
-}
-
-// The first address at which the line differs from the word.
+// The first address at which the line differs from the word. A usize has no From into a u8, so `as` stays: the address is below 63.
+// No Option here and below: where nothing differs it is NOWHERE, as Mended holds it and film.h answers it.
 fn first_changed(word: [u8; 63], line: [u8; 63]) -> u8
     ensures { result ≡ first_changed word line }
 {
-    let mut a: usize = 0;
-    while a < 63 {
+    for a in 0..63 {
         if word[a] != line[a] {
             return a as u8;
         }
-        a += 1;
     }
     NOWHERE
 }
@@ -284,9 +234,7 @@ fn first_changed(word: [u8; 63], line: [u8; 63]) -> u8
 fn last_changed(word: [u8; 63], line: [u8; 63]) -> u8
     ensures { result ≡ last_changed word line }
 {
-    let mut a: usize = 63;
-    while a > 0 {
-        a -= 1;
+    for a in (0..63).rev() {
         if word[a] != line[a] {
             return a as u8;
         }

@@ -2,7 +2,7 @@
 use mathlib.Core.Path.{◌≡◌, refl, sym, ap, ap₂, ◌∙◌}
 use mathlib.Core.Bool.{Bool}
 use mathlib.Core.List.{List, [], ◌∷◌}
-use Prim.Native.Nat.{ℕ, zero, suc, ◌+◌, ◌-◌, ◌*◌, ◌/◌, ◌%◌, ◌^◌, ◌<◌, ◌≤◌}
+use Prim.Native.Nat.{ℕ, suc, ◌+◌, ◌-◌, ◌*◌, ◌/◌, ◌%◌, ◌^◌, ◌<◌, ◌≤◌}
 use native.Mathlib.Nat.{mod-eq_of_lt}
 use native.Mathlib.Omega.{arith}
 use lib.Bits.{bit_and, bit_or, bit_xor, xor_lt}
@@ -16,7 +16,7 @@ use Rattle.field.proofs.Laws
 use Rattle.polynomial.specs.Polynomial.{poly_at}
 use Rattle.planes.specs.declared.Planes.{Planes}
 use Rattle.planes.specs.Roots.{RootsOf}
-use Rattle.planes.specs.Slices.{bit_at, of_bits, element_at, BitSpread, Everywhere, Doubled, Added, OnlyAt, NextBit, PlaceMultiplied, ZerosOf}
+use Rattle.planes.specs.Slices.{bit_at, of_bits, element_at, BitSpread, Everywhere, Doubled, Added, OnlyAt, NextBit, Multiplied, PlaceMultiplied, ZerosOf}
 use Rattle.planes.specs.Crossed.{Crossed, Squared}
 use Rattle.planes.proofs.Bits.{xor_bit, and_bit, or_between, Between, low_bit, of_same, of_xor, of_lt, of_scaled, of_times_x}
 
@@ -116,7 +116,7 @@ module _ (v r : Planes) where
 pub next_bit : (s v t o r : Planes) (k : ℕ) → Doubled s t → OnlyAt k v o → Added t o r → NextBit s v k r
 next_bit s v t o r k d h a = record { at = λ l. a.at l ∙ ap₂ sum (d.at l) (h.at l) }
 
--- ---- the product with the place, from its highest bit down
+-- ---- the product, from the highest bit of the second factor down
 
 -- the highest bit alone
 first_bit : (u y s : ℕ) → s ≡ y % 2 * u → s ≡ shifted 1 u (y % 2)
@@ -148,29 +148,24 @@ bits_multiplied a b c d e f v s5 s4 s3 s2 s1 r h5 h4 h3 h2 h1 h0 l =
     let p0 = one_bit_more 5 u _ (a / 2 ^ l) (element_at s1 l) (element_at r l) p1 (h0.at l) in
     p0 ∙ ap (λ (x : ℕ). shifted 6 x (of_bits (bit_at a l) (bit_at b l) (bit_at c l) (bit_at d l) (bit_at e l) (bit_at f l))) (sym (mod-eq_of_lt (element_lt v l)))
 
--- six words hold the powers of α, as planes
-abbrev pub are_places : ℕ → ℕ → ℕ → ℕ → ℕ → ℕ → Bool
-are_places a b c d e f = each 63 (λ l. eqb (of_bits (bit_at a l) (bit_at b l) (bit_at c l) (bit_at d l) (bit_at e l) (bit_at f l)) (power α l))
+pub multiplied : (v w s5 s4 s3 s2 s1 r : Planes) → OnlyAt w.b5 v s5 → NextBit s5 v w.b4 s4 → NextBit s4 v w.b3 s3
+    → NextBit s3 v w.b2 s2 → NextBit s2 v w.b1 s1 → NextBit s1 v w.b0 r → Multiplied v w r
+unfolding element_at
+multiplied v w s5 s4 s3 s2 s1 r h5 h4 h3 h2 h1 h0 =
+    record { at = bits_multiplied w.b0 w.b1 w.b2 w.b3 w.b4 w.b5 v s5 s4 s3 s2 s1 r h5 h4 h3 h2 h1 h0 }
 
-pub place_planes : (a b c d e f : ℕ) → T (are_places a b c d e f) → (v s5 s4 s3 s2 s1 r : Planes) → OnlyAt f v s5 → NextBit s5 v e s4 → NextBit s4 v d s3
-    → NextBit s3 v c s2 → NextBit s2 v b s1 → NextBit s1 v a r → PlaceMultiplied v r
-place_planes a b c d e f t v s5 s4 s3 s2 s1 r h5 h4 h3 h2 h1 h0 =
+-- planes hold the powers of α
+abbrev pub are_places : Planes → Bool
+are_places w = each 63 (λ l. eqb (element_at w l) (power α l))
+
+pub place_planes : (w : Planes) → T (are_places w) → (v r : Planes) → Multiplied v w r → PlaceMultiplied v r
+place_planes w t v r m =
     record {
-      at = λ l h.
-          bits_multiplied a b c d e f v s5 s4 s3 s2 s1 r h5 h4 h3 h2 h1 h0 l
-          ∙ ap (product (element_at v l))
-          (eqb→eq _ _ (each_at 63 (λ k. eqb (of_bits (bit_at a k) (bit_at b k) (bit_at c k) (bit_at d k) (bit_at e k) (bit_at f k)) (power α k)) t l h));
+      at = λ l h. m.at l ∙ ap (product (element_at v l)) (eqb→eq _ _ (each_at 63 (λ k. eqb (element_at w k) (power α k)) t l h));
     }
 
-pub multiplied : (v w s5 s4 s3 s2 s1 r : Planes) → OnlyAt w.b5 v s5 → NextBit s5 v w.b4 s4 → NextBit s4 v w.b3 s3
-    → NextBit s3 v w.b2 s2 → NextBit s2 v w.b1 s1 → NextBit s1 v w.b0 r → (l : ℕ) → element_at r l ≡ product (element_at v l) (element_at w l)
-unfolding element_at
-multiplied v w s5 s4 s3 s2 s1 r h5 h4 h3 h2 h1 h0 l =
-    bits_multiplied w.b0 w.b1 w.b2 w.b3 w.b4 w.b5 v s5 s4 s3 s2 s1 r h5 h4 h3 h2 h1 h0 l
-
-pub crossed_planes : (a x b y s t r : Planes) → ((l : ℕ) → element_at s l ≡ product (element_at a l) (element_at x l))
-    → ((l : ℕ) → element_at t l ≡ product (element_at b l) (element_at y l)) → Added s t r → Crossed a x b y r
-crossed_planes a x b y s t r p q h = record { at = λ l. h.at l ∙ ap₂ sum (p l) (q l) }
+pub crossed_planes : (a x b y s t r : Planes) → Multiplied a x s → Multiplied b y t → Added s t r → Crossed a x b y r
+crossed_planes a x b y s t r p q h = record { at = λ l. h.at l ∙ ap₂ sum (p.at l) (q.at l) }
 
 -- ---- the square
 

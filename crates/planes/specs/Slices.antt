@@ -34,6 +34,9 @@ pub record OnlyAt (k : ℕ) (v r : Planes) : Type 0 where
 pub record NextBit (s v : Planes) (k : ℕ) (r : Planes) : Type 0 where
   pub at : (l : ℕ) → element_at r l ≡ sum (times_x (element_at s l)) (bit_at k l * element_at v l)
 
+pub record Multiplied (v w r : Planes) : Type 0 where
+  pub at : (l : ℕ) → element_at r l ≡ product (element_at v l) (element_at w l)
+
 pub record PlaceMultiplied (v r : Planes) : Type 0 where
   pub at : (l : ℕ) → l < 63 → element_at r l ≡ product (element_at v l) (power α l)
 

@@ -3,28 +3,15 @@
 
 ghost use Rattle.std.specs.Prelude.{◌%◌};
 ghost use Rattle.planes.specs.Roots.{RootsOf, FirstFrom};
-ghost use Rattle.planes.specs.Slices.{BitSpread, Everywhere, Doubled, Added, OnlyAt, NextBit, PlaceMultiplied, ZerosOf};
+ghost use Rattle.planes.specs.Slices.{BitSpread, Everywhere, Doubled, Added, OnlyAt, NextBit, Multiplied, PlaceMultiplied, ZerosOf};
 ghost use Rattle.planes.specs.Crossed.{Crossed, Squared};
-
-// Bit l of each is one bit of the l-th power of α, the lowest bit first.
-const PLACE_0: u64 = 9032456453195372609;
-
-const PLACE_1: u64 = 570494640314067138;
-
-const PLACE_2: u64 = 1140989280628134276;
-
-const PLACE_3: u64 = 2281978561256268552;
-
-const PLACE_4: u64 = 4563957122512537104;
-
-const PLACE_5: u64 = 9127914245025074208;
 
 // A bit for each of the 63 places, and the bit past them.
 const ALL_PLACES: u64 = 9223372036854775807;
 
 const PAST_PLACES: u64 = 9223372036854775808;
 
-// Elements at 64 places: bit l of plane t is bit t of the element at l.
+// Elements at 64 places: bit l of plane t is bit t of the element at l. Fields and no array: `times_x` and `square` have another rule for each plane.
 #[derive(Clone, Copy)]
 pub struct Planes {
     pub b0: u64,
@@ -35,16 +22,23 @@ pub struct Planes {
     pub b5: u64,
 }
 
+// The l-th power of α at each place l below 63.
+const POWERS: Planes = Planes {
+    b0: 9032456453195372609,
+    b1: 570494640314067138,
+    b2: 1140989280628134276,
+    b3: 2281978561256268552,
+    b4: 4563957122512537104,
+    b5: 9127914245025074208,
+};
+
 // The roots of a polynomial, its lowest coefficient first, among the powers of α: bit l is set where the l-th power is one. Of each coefficient the low six bits count.
 pub fn roots(p: [u8; 6]) -> u64
     ensures { RootsOf p result }
 {
     let mut v = everywhere(p[5]);
-    let mut k: usize = 5;
-    while k > 0 {
-        k -= 1;
-        let t = plus(times_place(v), everywhere(p[k]));
-        v = t;
+    for k in (0..5).rev() {
+        v = plus(times_place(v), everywhere(p[k]));
     }
     zeros(v)
 }
@@ -62,8 +56,7 @@ pub fn first_from(bits: u64, from: usize) -> usize
 fn spread(c: u8) -> u64
     ensures { BitSpread c result }
 {
-    let b = c as u64;
-    b % 2 * ALL_PLACES
+    u64::from(c % 2) * ALL_PLACES
 }
 
 // The element c at each of 63 places.
@@ -129,48 +122,37 @@ fn next_bit(s: Planes, v: Planes, k: u64) -> Planes
     plus(times_x(s), only_at(v, k))
 }
 
-// At each place l the product with the l-th power of α, by shift and add, from its highest bit down: no branch and no table.
+// The products, place by place, by shift and add, from the highest bit down: no branch and no table.
+fn times(v: Planes, w: Planes) -> Planes
+    ensures { Multiplied v w result }
+{
+    let s5 = only_at(v, w.b5);
+    let s4 = next_bit(s5, v, w.b4);
+    let s3 = next_bit(s4, v, w.b3);
+    let s2 = next_bit(s3, v, w.b2);
+    let s1 = next_bit(s2, v, w.b1);
+    next_bit(s1, v, w.b0)
+}
+
+// At each place l the product with the l-th power of α.
 fn times_place(v: Planes) -> Planes
     ensures { PlaceMultiplied v result }
 {
-    let s5 = only_at(v, PLACE_5);
-    let s4 = next_bit(s5, v, PLACE_4);
-    let s3 = next_bit(s4, v, PLACE_3);
-    let s2 = next_bit(s3, v, PLACE_2);
-    let s1 = next_bit(s2, v, PLACE_1);
-    next_bit(s1, v, PLACE_0)
+    times(v, POWERS)
 }
 
-// The product of a and x and that of b and y added, place by place: both by shift and add, from the highest bit down.
+// The product of a and x and that of b and y added, place by place.
 pub fn crossed(a: Planes, x: Planes, b: Planes, y: Planes) -> Planes
     ensures { Crossed a x b y result }
 {
-    let s5 = only_at(a, x.b5);
-    let s4 = next_bit(s5, a, x.b4);
-    let s3 = next_bit(s4, a, x.b3);
-    let s2 = next_bit(s3, a, x.b2);
-    let s1 = next_bit(s2, a, x.b1);
-    let s0 = next_bit(s1, a, x.b0);
-    let t5 = only_at(b, y.b5);
-    let t4 = next_bit(t5, b, y.b4);
-    let t3 = next_bit(t4, b, y.b3);
-    let t2 = next_bit(t3, b, y.b2);
-    let t1 = next_bit(t2, b, y.b1);
-    let t0 = next_bit(t1, b, y.b0);
-    plus(s0, t0)
+    plus(times(a, x), times(b, y))
 }
 
 // The same where y is b: a square only moves and adds bits.
 pub fn crossed_square(a: Planes, x: Planes, b: Planes) -> Planes
     ensures { Crossed a x b b result }
 {
-    let s5 = only_at(a, x.b5);
-    let s4 = next_bit(s5, a, x.b4);
-    let s3 = next_bit(s4, a, x.b3);
-    let s2 = next_bit(s3, a, x.b2);
-    let s1 = next_bit(s2, a, x.b1);
-    let s0 = next_bit(s1, a, x.b0);
-    plus(s0, square(b))
+    plus(times(a, x), square(b))
 }
 
 // The square of each element: x^6, x^8 and x^10 are x + 1, x^3 + x^2 and x^5 + x^4.

@@ -2,11 +2,10 @@
 use mathlib.Core.Path.{◌≡◌, refl, sym, ap, ap₂, ◌∙◌}
 use mathlib.Core.Bool.{Bool, cond}
 use mathlib.Core.List.{List, [], ◌∷◌, ◌++◌, append_assoc, append-nil}
-use Prim.Native.Nat.{ℕ, zero, suc, ◌+◌, ◌*◌, ◌/◌, ◌%◌, ◌^◌, ◌<◌, ◌≤◌}
-use native.Mathlib.Nat.{add-zero, add-suc}
+use Prim.Native.Nat.{ℕ, zero, suc, ◌+◌, ◌-◌, ◌*◌, ◌/◌, ◌%◌, ◌^◌, ◌<◌, ◌≤◌}
+use native.Mathlib.Nat.{add-zero, add-suc, suc-add}
 use native.Mathlib.Omega.{arith}
-use lib.Bits.{bit_xor, bit_and, and_zero_r, and_mask}
-use lib.Dec.{eqb}
+use lib.Bits.{bit_xor, bit_and, xor_comm, and_zero_r, and_mask}
 use lib.ListN.{length, get_or, take, set, length-set, length-append}
 use lib.Seq.{take-suc, take_all, get_or-set_same, get_or-set_other}
 use borrow.Author.Count.{below_none, below_more}
@@ -32,15 +31,11 @@ unfolding value
 value_lt cs i = Horner.value_lt (point i) cs
 
 -- r has the terms of a character c, s the values of the n characters after it
-pub more_terms : (c r s : ℕ) (cs : List ℕ) (n : ℕ) → r ≡ pack 10 (term n c) → length cs ≡ n → s ≡ pack 10 (value cs) → bit_xor r s ≡ pack 10 (value (c ∷ cs))
+more_terms : (c r s : ℕ) (cs : List ℕ) (n : ℕ) → r ≡ pack 10 (term n c) → length cs ≡ n → s ≡ pack 10 (value cs) → bit_xor r s ≡ pack 10 (value (c ∷ cs))
 unfolding value value_at term
 more_terms c r s cs n e l q =
     ap₂ bit_xor e q ∙ Lanes.xor_pack 10 (term n c) (value cs) (term_lt n c) (value_lt cs)
     ∙ ap (λ (m : ℕ). pack 10 (λ i. sum (term m c i) (value cs i))) (sym l)
-
-pub last_terms : (c r : ℕ) → r ≡ pack 10 (term 0 c) → r ≡ pack 10 (value (c ∷ []))
-unfolding value value_at term
-last_terms c r e = e ∙ Lanes.pack_same 10 (term 0 c) (λ i. sum (term 0 c i) 0) (λ i h. sym (Laws.sum_zero (term 0 c i)))
 
 -- ---- characters after others
 
@@ -67,12 +62,47 @@ take_run w i k (suc n) h =
     moved : (i k n : ℕ) → i + suc k + n ≡ i + k + suc n
     moved i k n = omega arith
 
--- the part from i on, as the code reads it
-pub run_read : (w : List ℕ) (i r : ℕ)
-    → r ≡ pack 10 (value (get_or w i 0 ∷ get_or w (i + 1) 0 ∷ get_or w (i + 2) 0 ∷ get_or w (i + 3) 0 ∷ get_or w (i + 4) 0 ∷ get_or w (i + 5) 0 ∷ get_or w (i + 6) 0 ∷ get_or w (i + 7) 0 ∷ get_or w (i + 8) 0 ∷ get_or w (i + 9) 0 ∷ get_or w (i + 10) 0 ∷ get_or w (i + 11) 0 ∷ get_or w (i + 12) 0 ∷ get_or w (i + 13) 0 ∷ get_or w (i + 14) 0 ∷ get_or w (i + 15) 0 ∷ get_or w (i + 16) 0 ∷ get_or w (i + 17) 0 ∷ get_or w (i + 18) 0 ∷ get_or w (i + 19) 0 ∷ get_or w (i + 20) 0 ∷ []))
-    → r ≡ pack 10 (value (run w i 0 21))
+-- a run of one more in front
+run_moved : (w : List ℕ) (i k n : ℕ) → run w i (suc k) n ≡ run w (suc i) k n
 unfolding run
-run_read w i r e = e ∙ ap (λ (m : ℕ). pack 10 (value (get_or w m 0 ∷ run w i 1 20))) (sym (add-zero i))
+run_moved w i k zero = refl
+run_moved w i k (suc n) = ap₂ (λ (a : ℕ) (us : List ℕ). get_or w a 0 ∷ us) (add-suc i k ∙ sym (suc-add i k)) (run_moved w i (suc k) n)
+
+run_front : (w : List ℕ) (i n : ℕ) → get_or w i 0 ∷ run w (suc i) 0 n ≡ run w i 0 (suc n)
+unfolding run
+run_front w i n = ap₂ (λ (a : ℕ) (us : List ℕ). get_or w a 0 ∷ us) (sym (add-zero i)) (sym (run_moved w i 0 n))
+
+-- of the part from i on, p has the values of the last n characters
+pub record PartTo (w : List ℕ) (i p n : ℕ) : Type 0 where
+  pub most : n ≤ 21
+  pub is : p ≡ pack 10 (value (run w (i + 21 - n) 0 n))
+
+pub part_none : (w : List ℕ) (i : ℕ) → PartTo w i 0 0
+unfolding pack value value_at run
+part_none w i = record { most = omega arith; is = refl }
+
+pub part_again : (w : List ℕ) (i p n r : ℕ) → PartTo w i p n → n < 21 → r ≡ pack 10 (term n (get_or w (i + 20 - n) 0)) → PartTo w i (bit_xor p r) (n + 1)
+part_again w i p n r t h e =
+    let a : ℕ = i + 20 - n in
+    let next : i + 21 - n ≡ suc a = omega arith in
+    let here : a ≡ i + 21 - (n + 1) = omega arith in
+    record {
+      most = omega arith;
+      is =
+          xor_comm p r
+          ∙ more_terms (get_or w a 0) r p (run w (suc a) 0 n) n e (run_long w (suc a) 0 n) (t.is ∙ ap (λ (j : ℕ). pack 10 (value (run w j 0 n))) next)
+          ∙ ap (λ (us : List ℕ). pack 10 (value us)) (run_front w a n)
+          ∙ ap₂ (λ (j m : ℕ). pack 10 (value (run w j 0 m))) here (one n);
+    }
+  where
+    one : (n : ℕ) → suc n ≡ n + 1
+    one n = omega arith
+
+pub part_all : (w : List ℕ) (i p n : ℕ) → PartTo w i p n → 21 ≤ n → p ≡ pack 10 (value (run w i 0 21))
+part_all w i p n t h =
+    let m = t.most in
+    let e : n ≡ 21 = omega arith in
+    t.is ∙ ap (λ (m : ℕ). pack 10 (value (run w (i + 21 - m) 0 m))) e ∙ ap (λ (j : ℕ). pack 10 (value (run w j 0 21))) (omega arith)
 
 -- 63 characters are three parts
 three_parts : (w : List ℕ) → length w ≡ 63 → run w 0 0 21 ++ (run w 21 0 21 ++ run w 42 0 21) ≡ w

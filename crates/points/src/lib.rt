@@ -1,7 +1,7 @@
 // The value of a word at ten points, packed, 21 characters at a time.
 #![tactic(auto)]
 
-ghost use Rattle.std.specs.Prelude.{◌≡◌, [], ◌∷◌, ◌+◌, ◌≤◌, length};
+ghost use Rattle.std.specs.Prelude.{◌≡◌, ◌+◌, ◌≤◌, length};
 ghost use Rattle.lanes.specs.Lanes.{pack};
 ghost use Rattle.points.specs.Value.{value, run, values_of};
 
@@ -22,11 +22,8 @@ pub fn values(word: &[u8]) -> u64
         return 0;
     }
     let mut parts = [0u64; 3];
-    let mut k: usize = 0;
-    while k < 3 {
-        let r = part_values(word, 21 * k);
-        parts[k] = r;
-        k += 1;
+    for k in 0..3 {
+        parts[k] = part_values(word, 21 * k);
     }
     let a = parts[0];
     let b = parts[1];
@@ -34,81 +31,14 @@ pub fn values(word: &[u8]) -> u64
     shared ^ (a & MORE_FIRST) ^ (b & MORE_SECOND) ^ parts[2]
 }
 
-// The ten values of the 21 characters from an address on.
+// The ten values of the 21 characters from an address on, from the last: each adds its terms, which are those of a character with as many after it.
 fn part_values(word: &[u8], i: usize) -> u64
     requires { i + 21 ≤ length word.now }
     ensures { result ≡ pack 10 (value (run word.now i 0 21)) }
 {
-    block(
-        word[i],
-        word[i + 1],
-        word[i + 2],
-        word[i + 3],
-        word[i + 4],
-        word[i + 5],
-        word[i + 6],
-        word[i + 7],
-        word[i + 8],
-        word[i + 9],
-        word[i + 10],
-        word[i + 11],
-        word[i + 12],
-        word[i + 13],
-        word[i + 14],
-        word[i + 15],
-        word[i + 16],
-        word[i + 17],
-        word[i + 18],
-        word[i + 19],
-        word[i + 20],
-    )
-}
-
-// The ten values of 21 characters, from the last: each adds its terms, from the table of those that have as many after them.
-fn block(
-    c0: u8,
-    c1: u8,
-    c2: u8,
-    c3: u8,
-    c4: u8,
-    c5: u8,
-    c6: u8,
-    c7: u8,
-    c8: u8,
-    c9: u8,
-    c10: u8,
-    c11: u8,
-    c12: u8,
-    c13: u8,
-    c14: u8,
-    c15: u8,
-    c16: u8,
-    c17: u8,
-    c18: u8,
-    c19: u8,
-    c20: u8,
-) -> u64
-    ensures { result ≡ pack 10 (value (c0 ∷ c1 ∷ c2 ∷ c3 ∷ c4 ∷ c5 ∷ c6 ∷ c7 ∷ c8 ∷ c9 ∷ c10 ∷ c11 ∷ c12 ∷ c13 ∷ c14 ∷ c15 ∷ c16 ∷ c17 ∷ c18 ∷ c19 ∷ c20 ∷ [])) }
-{
-    let p = terms_low::at0(c20);
-    let p = terms_low::at1(c19) ^ p;
-    let p = terms_low::at2(c18) ^ p;
-    let p = terms_low::at3(c17) ^ p;
-    let p = terms_low::at4(c16) ^ p;
-    let p = terms_low::at5(c15) ^ p;
-    let p = terms_low::at6(c14) ^ p;
-    let p = terms_mid::at7(c13) ^ p;
-    let p = terms_mid::at8(c12) ^ p;
-    let p = terms_mid::at9(c11) ^ p;
-    let p = terms_mid::at10(c10) ^ p;
-    let p = terms_mid::at11(c9) ^ p;
-    let p = terms_mid::at12(c8) ^ p;
-    let p = terms_mid::at13(c7) ^ p;
-    let p = terms_high::at14(c6) ^ p;
-    let p = terms_high::at15(c5) ^ p;
-    let p = terms_high::at16(c4) ^ p;
-    let p = terms_high::at17(c3) ^ p;
-    let p = terms_high::at18(c2) ^ p;
-    let p = terms_high::at19(c1) ^ p;
-    terms_high::at20(c0) ^ p
+    let mut p: u64 = 0;
+    for n in 0..21 {
+        p ^= terms::at(n, word[i + 20 - n]);
+    }
+    p
 }

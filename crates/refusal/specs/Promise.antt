@@ -1,5 +1,5 @@
 -- What every public call promises: its tests in the paper's order, each with its refusal, and what a success gives.
-use Rattle.std.specs.Prelude.{◌≡◌, Bool, true, false, ◌⊎◌, List, [], ◌∷◌, ℕ, zero, suc, replicate}
+use Rattle.std.specs.Prelude.{◌≡◌, Bool, true, false, ◌⊎◌, List, [], ◌∷◌, ℕ, zero, suc, replicate, Result, MatchResult}
 use Rattle.refusal.specs.declared.Refusal.{Refusal}
 use Rattle.refusal.specs.Number.{number_of}
 
@@ -35,3 +35,7 @@ Replies ts Stated k numbers = Promise {O = Unit} ts (λ fields _. Stated fields)
 pub record Tells (P : Type 0) (b : Bool) : Type 0 where
   pub holds : b ≡ true → P
   pub fails : b ≡ false → P → ⊥
+
+-- and what one answers that refuses: Ok where the fact holds, and else the refusal
+abbrev pub Checks : Test → Result Unit Refusal → Type 0
+Checks t r = MatchResult r (λ _. t.holds) (λ e. (t.holds → ⊥) × (e ≡ t.refusal))

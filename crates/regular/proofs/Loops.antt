@@ -1,9 +1,9 @@
 -- What the code of the filter does, a step at a time, over plain variables.
 use mathlib.Core.Path.{◌≡◌, sym, ap, ap₂, ◌∙◌}
 use mathlib.Core.List.{List, [], ◌∷◌}
-use Prim.Native.Nat.{ℕ, ◌+◌, ◌*◌, ◌/◌, ◌^◌, ◌<◌}
+use Prim.Native.Nat.{ℕ, suc, ◌+◌, ◌*◌, ◌/◌, ◌^◌, ◌<◌}
 use native.Mathlib.Omega.{arith}
-use lib.ListN.{get_or}
+use lib.ListN.{get_or, length}
 use Rattle.field.specs.Field.{sum}
 use Rattle.field.proofs.Laws
 use Rattle.code.specs.Word.{listed}
@@ -11,7 +11,7 @@ use Rattle.code.proofs.Words.{listed_get}
 use Rattle.planes.specs.declared.Planes.{Planes}
 use Rattle.planes.specs.Slices.{bit_at, element_at, Everywhere, Added}
 use Rattle.planes.proofs.Bits.{Between, of_same, of_lt}
-use Rattle.regular.specs.Pivots.{element_in, sum_in, SumPlanes, PivotsOfSums, ElementsAt}
+use Rattle.regular.specs.Pivots.{element_in, sum_in, SumPlanes, PivotsOfSums, ElementsAt, element}
 use Rattle.regular.specs.Promises.{NoErrorsWhere}
 use Rattle.regular.proofs.Elimination.{no_errors}
 
@@ -22,12 +22,6 @@ left_none h z = omega (arith, h.left)
 
 pub right_none : {x y o : ℕ} → Between x y o → o ≡ 0 → y ≡ 0
 right_none h z = omega (arith, h.right)
-
--- ---- entries, one after another
-
-infixr 1 ◌next◌
-abbrev pub ◌next◌ : {A B : Type 0} → A → B → A × B
-a next b = (a, b)
 
 -- ---- the sums
 
@@ -49,13 +43,16 @@ sum_planes sums words k e a r h0 h1 h2 h3 h4 h5 ev ad =
           sym (ad.at l ∙ ap₂ sum (ev.at l h) (of_same (ap at h0) (ap at h1) (ap at h2) (ap at h3) (ap at h4) (ap at h5)));
     }
 
-pub no_errors_where : (sums words : List ℕ) (s0 s1 s2 s3 s4 s5 s6 s7 s8 s9 s10 : Planes) (r : ℕ) → SumPlanes sums words 0 s0 → SumPlanes sums words 1 s1
-    → SumPlanes sums words 2 s2 → SumPlanes sums words 3 s3 → SumPlanes sums words 4 s4 → SumPlanes sums words 5 s5 → SumPlanes sums words 6 s6
-    → SumPlanes sums words 7 s7 → SumPlanes sums words 8 s8 → SumPlanes sums words 9 s9 → SumPlanes sums words 10 s10
-    → PivotsOfSums (ElementsAt (s0 ∷ s1 ∷ s2 ∷ s3 ∷ s4 ∷ s5 ∷ s6 ∷ s7 ∷ s8 ∷ s9 ∷ s10 ∷ [])) r → NoErrorsWhere sums words r
-no_errors_where sums words s0 s1 s2 s3 s4 s5 s6 s7 s8 s9 s10 r h0 h1 h2 h3 h4 h5 h6 h7 h8 h9 h10 p =
+pub elements_from : (s : List Planes) (l : ℕ) (f : ℕ → ℕ) → ((k : ℕ) → k < length s → f k ≡ element s k l) → ElementsAt s l f
+elements_from [] l f h = tt
+elements_from (p ∷ ps) l f h = (h 0 (omega arith), elements_from ps l (λ k. f (suc k)) (λ k g. h (suc k) (omega arith)))
+
+pub no_errors_where : (sums words : List ℕ) (s : List Planes) (r : ℕ) → length s ≡ 11
+    → ((k : ℕ) → k < 11 → SumPlanes sums words k (get_or s k (record { b0 = 0; b1 = 0; b2 = 0; b3 = 0; b4 = 0; b5 = 0 }))) → PivotsOfSums (ElementsAt s) r
+    → NoErrorsWhere sums words r
+no_errors_where sums words s r long h p =
     record {
       none = λ l b z.
           no_errors (listed (sum_in sums words l) 0 11) (sum_in sums words l) (sum_small sums words l) (λ k g. listed_get (sum_in sums words l) 11 k g)
-          (p.pivots l b z (sum_in sums words l) (h0.at l b next h1.at l b next h2.at l b next h3.at l b next h4.at l b next h5.at l b next h6.at l b next h7.at l b next h8.at l b next h9.at l b next h10.at l b next tt));
+          (p.pivots l b z (sum_in sums words l) (elements_from s l (sum_in sums words l) (λ k g. (h k (omega arith)).at l b)));
     }

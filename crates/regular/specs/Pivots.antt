@@ -1,5 +1,5 @@
 -- Elimination without division and without a search for pivots, of a symmetric matrix, and what the functions that do it at all places promise.
-use Rattle.std.specs.Prelude.{◌≡◌, List, [], ◌∷◌, ℕ, zero, suc, ◌+◌, ◌*◌, ◌%◌, ◌<◌, get_or}
+use Rattle.std.specs.Prelude.{◌≡◌, List, [], ◌∷◌, ℕ, zero, suc, ◌+◌, ◌*◌, ◌%◌, ◌<◌, ◌≤◌, length, drop, get_or}
 use Rattle.field.specs.Field.{sum, product}
 use Rattle.planes.specs.declared.Planes.{Planes}
 use Rattle.planes.specs.Slices.{bit_at, of_bits, element_at}
@@ -43,3 +43,36 @@ ElementsAt (p ∷ ps) l f = (f 0 ≡ element_at p l) × ElementsAt ps l (λ k. f
 abbrev pub Upper : List (List Planes) → ℕ → (ℕ → ℕ → ℕ) → Type 0
 Upper [] l m = Unit {0}
 Upper (row ∷ rows) l m = ElementsAt row l (m 0) × Upper rows l (λ i j. m (suc i) (suc j))
+
+-- ---- the matrix as the code has it, six whole rows of planes
+
+-- what stands from the diagonal on, which the first row meets at column c
+abbrev pub from_diagonal : ℕ → List (List Planes) → List (List Planes)
+from_diagonal c [] = []
+from_diagonal c (row ∷ rows) = drop c row ∷ from_diagonal (suc c) rows
+
+-- six entries in each row
+abbrev pub Wide : List (List Planes) → Type 0
+Wide m = (i : ℕ) → i < 6 → length (get_or m i []) ≡ 6
+
+-- the element at place l of entry k of a row
+abbrev pub element : List Planes → ℕ → ℕ → ℕ
+element row k l = element_at (get_or row k (record { b0 = 0; b1 = 0; b2 = 0; b3 = 0; b4 = 0; b5 = 0 })) l
+
+-- and of entry j of row i
+abbrev pub entry : List (List Planes) → ℕ → ℕ → ℕ → ℕ
+entry m i j l = element (get_or m i []) j l
+
+-- row i has the sums from i on
+pub record Windows (s : List Planes) (m : List (List Planes)) : Type 0 where
+  pub long : length m ≡ 6
+  pub wide : Wide m
+  pub at : (i j l : ℕ) → i < 6 → j < 6 → entry m i j l ≡ element s (i + j) l
+
+-- row i, from the diagonal on, after the step from row n
+pub record RowReduced (first : List Planes) (n i : ℕ) (row r : List Planes) : Type 0 where
+  pub at : (j l : ℕ) → i ≤ j → j < 6 → element r j l ≡ sum (product (element first n l) (element row j l)) (product (element first i l) (element first j l))
+
+-- each row after row n
+pub record Reduced (n : ℕ) (m r : List (List Planes)) : Type 0 where
+  pub row : (i : ℕ) → n < i → i < 6 → RowReduced (get_or m n []) n i (get_or m i []) (get_or r i [])

@@ -1,64 +1,20 @@
--- The fields of an item: as each reader answers, by each way out, and for each kind.
-use mathlib.Core.Path.{◌≡◌, refl, sym, ap, ap₂, ◌∙◌}
+-- The fields of an item, for each kind, and its line.
+use mathlib.Core.Path.{◌≡◌, refl, sym, ap, ap₂}
 use mathlib.Core.List.{List, [], ◌∷◌}
-use Prim.Native.Nat.{ℕ, zero, suc, ◌≤◌}
+use Prim.Native.Nat.{ℕ, ◌≤◌}
 use native.Mathlib.Omega.{arith}
 use lib.ListN.{length, get_or, take}
 use lib.Seq.{length-take-le}
-use Rattle.refusal.specs.declared.Refusal.{Refusal}
-use Rattle.refusal.specs.Number.{number_of}
-use Rattle.line.specs.declared.Wanted.TheVariants as W
-use Rattle.line.specs.declared.LineReading.{LineReading}
-use Rattle.line.specs.declared.LineReading.TheVariants as L
-use Rattle.line.specs.Promises as line
-use Rattle.ring.specs.declared.RingReading.{RingReading}
-use Rattle.ring.specs.declared.RingReading.TheVariants as R
-use Rattle.ring.specs.Promises as ring
-use Rattle.block.specs.declared.BlockReading.{BlockReading}
-use Rattle.block.specs.declared.BlockReading.TheVariants as B
-use Rattle.block.specs.Promises as block
 use Rattle.text.specs.Text as text
 use Rattle.text.specs.Writing.{Puts}
 use Rattle.report.specs.declared.Kind.{Kind}
 use Rattle.report.specs.declared.Kind.TheVariants as K
-use Rattle.report.specs.Items.{letter, line_fields, ring_fields, block_fields, LineFields, RingFields, BlockFields, Fields}
-use Rattle.report.specs.Tray.{kinds}
+use Rattle.report.specs.Items.{letter, LineFields, RingFields, BlockFields, Fields}
 use Rattle.report.specs.Inside.{PutItem}
 
-module _ (t : ℕ) (word old new : List ℕ) (r : LineReading) (room : length old ≡ 63) (reads : line.Reads word t W.Any old (line.reading_numbers r) new) where
-  line-answer : (fields : List ℕ) → fields ≡ line_fields r → LineFields t word fields
-  line-answer fields e = record { reading = r; old = old; new = new; long = room; reads = reads; shows = e }
-
-  pub line_found : (number distance first last : ℕ) → r ≡ L.Line number distance first last → LineFields t word (0 ∷ distance ∷ number ∷ [])
-  line_found number distance first last e = line-answer _ (sym (ap line_fields e))
-
-  pub line_refused : (why : Refusal) (fields : List ℕ) → r ≡ L.Refused why → fields ≡ number_of why ∷ 0 ∷ 0 ∷ [] → LineFields t word fields
-  line_refused why fields e f = line-answer fields (f ∙ sym (ap line_fields e))
-
-module _ (t : ℕ) (word old new : List ℕ) (r : RingReading) (room : length old ≡ 63) (reads : ring.ReadsRing word t old (ring.reading_numbers r) new) where
-  ring-answer : (fields : List ℕ) → fields ≡ ring_fields r → RingFields t word fields
-  ring-answer fields e = record { reading = r; old = old; new = new; long = room; reads = reads; shows = e }
-
-  pub ring_found : (start number distance first last : ℕ) → r ≡ R.Line start number distance first last → RingFields t word (0 ∷ start ∷ distance ∷ [])
-  ring_found start number distance first last e = ring-answer _ (sym (ap ring_fields e))
-
-  pub ring_refused : (why : Refusal) (fields : List ℕ) → r ≡ R.Refused why → fields ≡ number_of why ∷ 0 ∷ 0 ∷ [] → RingFields t word fields
-  ring_refused why fields e f = ring-answer fields (f ∙ sym (ap ring_fields e))
-
 -- a block is read with the first bytes of a longer room for its output
-module _ (rows room : List ℕ) (fits : length rows ≤ length room) where
-  pub as_long : length rows ≡ length (take (length rows) room)
-  as_long = sym (length-take-le (length rows) room fits)
-
-  module _ (new : List ℕ) (r : BlockReading) (reads : block.Reads rows (take (length rows) room) (block.reading_numbers r) new) where
-    block-answer : (fields : List ℕ) → fields ≡ block_fields (length rows) r → BlockFields rows fields
-    block-answer fields e = record { reading = r; old = take (length rows) room; new = new; long = sym as_long; reads = reads; shows = e }
-
-    pub block_found : (distance : ℕ) → r ≡ B.Block distance → BlockFields rows (0 ∷ distance ∷ length rows ∷ [])
-    block_found distance e = block-answer _ (sym (ap (block_fields (length rows)) e))
-
-    pub block_refused : (why : Refusal) (fields : List ℕ) → r ≡ B.Refused why → fields ≡ number_of why ∷ 0 ∷ 0 ∷ [] → BlockFields rows fields
-    block_refused why fields e f = block-answer fields (f ∙ sym (ap (block_fields (length rows)) e))
+pub as_long : (rows room : List ℕ) → length rows ≤ length room → length (take (length rows) room) ≡ length rows
+as_long rows room fits = length-take-le (length rows) room fits
 
 -- ---- each kind
 
@@ -81,13 +37,6 @@ module _ (kind : Kind) where
 
   pub letter_block : kind ≡ K.Block → 66 ∷ [] ≡ letter kind ∷ []
   letter_block e = rw e
-
--- the third section and, past the end, the rest: blocks
-pub last_kind : (n : ℕ) → (n ≡ 0 → ⊥) → (n ≡ 1 → ⊥) → K.Block ≡ get_or kinds n K.Block
-last_kind zero f g = absurd (f refl)
-last_kind (suc zero) f g = absurd (g refl)
-last_kind (suc (suc zero)) f g = refl
-last_kind (suc (suc (suc n))) f g = refl
 
 -- ---- the line of an item
 

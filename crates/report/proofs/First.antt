@@ -22,10 +22,10 @@ record Taken (n : ℕ) (file it after : List ℕ) : Type 0 where
   is : it ≡ take n file
   left : after ≡ drop n file
 
-bytes_enough : (n : ℕ) (file : List ℕ) → n ≤ length file → first_bytes n file ≡ item (take n file) (drop n file)
+pub bytes_enough : (n : ℕ) (file : List ℕ) → n ≤ length file → first_bytes n file ≡ item (take n file) (drop n file)
 bytes_enough n file h = ap (λ (b : Bool). cond b (item (take n file) (drop n file)) short) (le-leb n (length file) h)
 
-bytes_few : (n : ℕ) (file : List ℕ) → length file < n → first_bytes n file ≡ short
+pub bytes_few : (n : ℕ) (file : List ℕ) → length file < n → first_bytes n file ≡ short
 bytes_few n file h = ap (λ (b : Bool). cond b (item (take n file) (drop n file)) short) (lt-leb n (length file) h)
 
 pub not_both : (f : First) (it after : List ℕ) → f ≡ short → f ≡ item it after → ⊥
@@ -40,8 +40,8 @@ bytes_taken n file it after e =
     (λ (h : length file < n). absurd (not_both (first_bytes n file) it after (bytes_few n file h) e))
     (le_or_lt n (length file))
 
-bytes_short : (n : ℕ) (file : List ℕ) → first_bytes n file ≡ short → length file < n
-bytes_short n file e =
+bytes_under : (n : ℕ) (file : List ℕ) → first_bytes n file ≡ short → length file < n
+bytes_under n file e =
     ⊎_elim (λ (h : n ≤ length file). absurd (not_both (first_bytes n file) _ _ e (bytes_enough n file h))) (λ h. h) (le_or_lt n (length file))
 
 bytes_longer : (n : ℕ) (file it after more : List ℕ) → Taken n file it after → first_bytes n (file ++ more) ≡ item it (after ++ more)
@@ -76,10 +76,10 @@ takes K.Block (rows ∷ file) it after b e =
     record { n = suc rows; small = omega arith; enough = omega (arith, t.enough); left = t.left; longer = λ more. bytes_longer rows file it after more t }
 
 pub short_of : (kind : Kind) (file : List ℕ) → Bytes file → first kind file ≡ short → length file < most kind
-short_of K.Line file b e = bytes_short 63 file e
-short_of K.Ring file b e = bytes_short 63 file e
+short_of K.Line file b e = bytes_under 63 file e
+short_of K.Ring file b e = bytes_under 63 file e
 short_of K.Block [] b e = omega arith
-short_of K.Block (rows ∷ file) b e = let h : length file < rows = bytes_short rows file e in let s : rows < 256 = b 0 in omega arith
+short_of K.Block (rows ∷ file) b e = let h : length file < rows = bytes_under rows file e in let s : rows < 256 = b 0 in omega arith
 
 -- ---- bytes of a part
 

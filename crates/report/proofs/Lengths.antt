@@ -4,22 +4,18 @@ use mathlib.Core.List.{List, [], ◌∷◌, ◌++◌}
 use Prim.Native.Nat.{ℕ, suc, ◌+◌, ◌*◌, ◌<◌, ◌≤◌}
 use native.Mathlib.Omega.{arith}
 use lib.ListN.{length, get_or, length-append}
+use Rattle.std.specs.Prelude.{None, Result, Ok, Err}
 use Rattle.refusal.specs.declared.Refusal.{Refusal}
 use Rattle.refusal.specs.Number.{number_of}
 use Rattle.refusal.proofs.Numbered.{numbered}
 use Rattle.refusal.proofs.Laws.{passed}
 use Rattle.code.specs.Word.{Line, number}
 use Rattle.code.proofs.Lines.{line_characters}
-use Rattle.line.specs.declared.Wanted.TheVariants as W
-use Rattle.line.specs.declared.LineReading.{LineReading}
-use Rattle.line.specs.declared.LineReading.TheVariants as L
+use Rattle.line.specs.declared.Reading.{Reading}
 use Rattle.line.specs.Promises as line
 use Rattle.ring.specs.declared.RingReading.{RingReading}
-use Rattle.ring.specs.declared.RingReading.TheVariants as R
 use Rattle.ring.specs.Promises as ring
 use Rattle.ring.proofs.Theorems.{entry_listed}
-use Rattle.block.specs.declared.BlockReading.{BlockReading}
-use Rattle.block.specs.declared.BlockReading.TheVariants as B
 use Rattle.block.specs.Promises as block
 use Rattle.text.specs.Text as text
 use Rattle.text.proofs.Decimal.{decimal_length}
@@ -74,42 +70,42 @@ few_refused why fields e = record { answer = number_of why; a = 0; b = 0; is = e
 number_few : (l : List ℕ) → Line l → number l < 4096
 number_few l p = omega (arith, line_characters l p 50, line_characters l p 51)
 
-few_line : (t : ℕ) (w old new fields : List ℕ) (r : LineReading) → line.Reads w t W.Any old (line.reading_numbers r) new → fields ≡ line_fields r → Few fields
+few_line : (t : ℕ) (w old new fields : List ℕ) (r : Result Reading Refusal) → line.Reads w t None old (line.reading_numbers r) new → fields ≡ line_fields r → Few fields
 unfolding line.Reads
-few_line t w old new fields (L.Refused why) q e = few_refused why fields e
-few_line t w old new fields (L.Line n d first last) q e =
-    let small : t ≤ 5 = (passed (line.reading_tests w t W.Any (length old)) 0 q.0 refl).1.1.1.0 in
-    let number_is : n ≡ number new = ap (λ (l : List ℕ). get_or l 0 0) q.1.1 in
+few_line t w old new fields (Err why) q e = few_refused why fields e
+few_line t w old new fields (Ok r) q e =
+    let small : t ≤ 5 = (passed (line.reading_tests w t None (length old)) 0 q.0 refl).1.1.1.0 in
+    let number_is : r.number ≡ number new = ap (λ (l : List ℕ). get_or l 0 0) q.1.1 in
     record {
       answer = 0;
-      a = d;
-      b = n;
+      a = r.distance;
+      b = r.number;
       is = e;
       two = omega arith;
       three = omega (arith, q.1.0.near, ap (λ (l : List ℕ). get_or l 1 0) q.1.1);
       four = omega (arith, number_few new q.1.0.line);
     }
 
-few_ring : (t : ℕ) (w old new fields : List ℕ) (r : RingReading) → ring.ReadsRing w t old (ring.reading_numbers r) new → fields ≡ ring_fields r → Few fields
+few_ring : (t : ℕ) (w old new fields : List ℕ) (r : Result RingReading Refusal) → ring.ReadsRing w t old (ring.reading_numbers r) new → fields ≡ ring_fields r → Few fields
 unfolding ring.ReadsRing
-few_ring t w old new fields (R.Refused why) q e = few_refused why fields e
-few_ring t w old new fields (R.Line k n d first last) q e =
+few_ring t w old new fields (Err why) q e = few_refused why fields e
+few_ring t w old new fields (Ok r) q e =
     let small : t ≤ 5 = (passed (ring.reading_tests w t (length old)) 0 q.0 refl).1.1.1.0 in
     let at = q.1 in
     record {
       answer = 0;
-      a = k;
-      b = d;
+      a = r.start;
+      b = r.distance;
       is = e;
       two = omega arith;
       three = omega (arith, (entry_listed w t (at.start ∷ []) at.only 0 (omega arith)).0, ap (λ (l : List ℕ). get_or l 0 0) at.shows);
       four = omega (arith, at.within.near, ap (λ (l : List ℕ). get_or l 2 0) at.shows);
     }
 
-few_block : (rows old new fields : List ℕ) (r : BlockReading) → block.Reads rows old (block.reading_numbers r) new → fields ≡ block_fields (length rows) r → Few fields
+few_block : (rows old new fields : List ℕ) (r : Result ℕ Refusal) → block.Reads rows old (block.reading_numbers r) new → fields ≡ block_fields (length rows) r → Few fields
 unfolding block.Reads
-few_block rows old new fields (B.Refused why) q e = few_refused why fields e
-few_block rows old new fields (B.Block d) q e =
+few_block rows old new fields (Err why) q e = few_refused why fields e
+few_block rows old new fields (Ok d) q e =
     let tests = passed (block.reading_tests rows (length old)) 0 q.0 refl in
     let rows_few : length rows ≤ 64 = tests.0.1 in
     record {

@@ -4,7 +4,7 @@ use mathlib.Core.List.{List, [], ◌∷◌, ◌++◌}
 use Prim.Native.Nat.{ℕ}
 use native.Mathlib.Omega.{arith}
 use lib.ListN.{length}
-use Rattle.line.specs.declared.Wanted.TheVariants as W
+use Rattle.std.specs.Prelude.{None}
 use Rattle.line.proofs.Theorems as line
 use Rattle.ring.proofs.Theorems as ring
 use Rattle.block.proofs.Theorems as block
@@ -24,7 +24,7 @@ one_read {fields_of = fields_of} same p q =
     p.shows ∙ ap fields_of (same p.old q.old p.reading q.reading p.new q.new (p.long ∙ sym q.long) p.reads q.reads) ∙ sym q.shows
 
 one_fields : (kind : Kind) (t : ℕ) (it f g : List ℕ) → Fields kind t it f → Fields kind t it g → f ≡ g
-one_fields K.Line t it f g p q = one_read (line.same_reading it t W.Any) p q
+one_fields K.Line t it f g p q = one_read (line.same_reading it t None) p q
 one_fields K.Ring t it f g p q = one_read (ring.same_reading it t) p q
 one_fields K.Block t it f g p q = one_read (block.same_reading it) p q
 

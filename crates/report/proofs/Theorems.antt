@@ -10,8 +10,8 @@ use Rattle.refusal.proofs.Laws.{one_refusal, refusal_positive}
 use Rattle.refusal.proofs.Theorems.{one_result}
 use Rattle.numbers.proofs.Cases.{le_or_lt}
 use Rattle.text.specs.Text.{fields, line}
-use Rattle.report.specs.declared.Reported.{Reported}
-use Rattle.report.specs.declared.Reported.TheVariants as R
+use Rattle.std.specs.Prelude.{Result, Ok, Err}
+use Rattle.refusal.specs.declared.Refusal.{Refusal}
 use Rattle.report.specs.Tray.{Bytes, Left, rest, cut, Sections, kinds}
 use Rattle.report.specs.Printed.{word_end, word_more, word_cut, header, closing, Report, empty, tray, report_room, Ends}
 use Rattle.report.specs.Promises.{report_numbers, report_tests, Shows, Reports}
@@ -31,25 +31,25 @@ one_shown file old f g x y p q =
     (p.shows ∙ ap (λ (l : List ℕ). length l ∷ []) e ∙ sym q.shows, p.output ∙ ap (λ (l : List ℕ). l ++ drop (length l) old) e ∙ sym q.output)
 
 -- the numbers fix the answer
-reported_fixed : (r s : Reported) → report_numbers r ≡ report_numbers s → r ≡ s
-reported_fixed (R.Text m) (R.Text n) q = ap R.Text (ap (λ (l : List ℕ). get_or l 1 0) q)
-reported_fixed (R.Text m) (R.Refused s) q = absurd (refusal_positive s (sym (ap (λ (l : List ℕ). get_or l 0 0) q)))
-reported_fixed (R.Refused r) (R.Text n) q = absurd (refusal_positive r (ap (λ (l : List ℕ). get_or l 0 0) q))
-reported_fixed (R.Refused r) (R.Refused s) q = ap R.Refused (one_refusal r s (ap (λ (l : List ℕ). get_or l 0 0) q))
+reported_fixed : (r s : Result ℕ Refusal) → report_numbers r ≡ report_numbers s → r ≡ s
+reported_fixed (Ok m) (Ok n) q = ap Ok (ap (λ (l : List ℕ). get_or l 1 0) q)
+reported_fixed (Ok m) (Err s) q = absurd (refusal_positive s (sym (ap (λ (l : List ℕ). get_or l 0 0) q)))
+reported_fixed (Err r) (Ok n) q = absurd (refusal_positive r (ap (λ (l : List ℕ). get_or l 0 0) q))
+reported_fixed (Err r) (Err s) q = ap Err (one_refusal r s (ap (λ (l : List ℕ). get_or l 0 0) q))
 
 -- any two results that the promise allows are equal
-pub one_reporting : (file old : List ℕ) (r s : Reported) (x y : List ℕ) → Reports file old (report_numbers r) x → Reports file old (report_numbers s) y → (r ≡ s) × (x ≡ y)
+pub one_reporting : (file old : List ℕ) (r s : Result ℕ Refusal) (x y : List ℕ) → Reports file old (report_numbers r) x → Reports file old (report_numbers s) y → (r ≡ s) × (x ≡ y)
 unfolding Reports
 one_reporting file old r s x y p q =
     let e = one_result (report_tests (length old)) (Shows file old) 1 (λ _. one_shown file old) old (report_numbers r) (report_numbers s) x y p q in
     (reported_fixed r s e.0, e.1)
 
 -- any bytes at all are taken, where the buffer has room
-pub any_bytes : (file old new : List ℕ) (r : Reported) → report_room ≤ length old → Reports file old (report_numbers r) new → (n : ℕ) × (r ≡ R.Text n)
+pub any_bytes : (file old new : List ℕ) (r : Result ℕ Refusal) → report_room ≤ length old → Reports file old (report_numbers r) new → (n : ℕ) × (r ≡ Ok n)
 unfolding Reports
-any_bytes file old new (R.Text n) h p = (n, refl)
-any_bytes file old new (R.Refused why) h (inl a, q) = absurd (refusal_positive why a.1)
-any_bytes file old new (R.Refused why) h (inr a, q) = absurd (a.0 h)
+any_bytes file old new (Ok n) h p = (n, refl)
+any_bytes file old new (Err why) h (inl a, q) = absurd (refusal_positive why a.1)
+any_bytes file old new (Err why) h (inr a, q) = absurd (a.0 h)
 
 -- ---- how long a report and a file can be
 
@@ -93,7 +93,7 @@ whole_lines (tray {lines = lines} {counts = counts} {left = left} d) = rw append
 
 -- ---- for a caller that writes the text out
 
-module _ (file old new : List ℕ) (r : Reported) (n : ℕ) (p : Reports file old (report_numbers r) new) (w : r ≡ R.Text n) where
+module _ (file old new : List ℕ) (r : Result ℕ Refusal) (n : ℕ) (p : Reports file old (report_numbers r) new) (w : r ≡ Ok n) where
   shown : Shows file old (n ∷ []) new
   unfolding Reports
   shown = (rw w at p).1

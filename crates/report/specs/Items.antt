@@ -1,15 +1,11 @@
 -- The items of a tray: lines, rings and blocks, and what is printed of each: the answer and two numbers of its reading; a refusal has 0 0.
-use Rattle.std.specs.Prelude.{◌≡◌, List, [], ◌∷◌, ℕ, length}
+use Rattle.std.specs.Prelude.{◌≡◌, List, [], ◌∷◌, ℕ, length, None, Result, Ok, Err}
+use Rattle.refusal.specs.declared.Refusal.{Refusal}
 use Rattle.refusal.specs.Number.{number_of}
-use Rattle.line.specs.declared.Wanted.TheVariants as W
-use Rattle.line.specs.declared.LineReading.{LineReading}
-use Rattle.line.specs.declared.LineReading.TheVariants as L
+use Rattle.line.specs.declared.Reading.{Reading}
 use Rattle.line.specs.Promises as line
 use Rattle.ring.specs.declared.RingReading.{RingReading}
-use Rattle.ring.specs.declared.RingReading.TheVariants as R
 use Rattle.ring.specs.Promises as ring
-use Rattle.block.specs.declared.BlockReading.{BlockReading}
-use Rattle.block.specs.declared.BlockReading.TheVariants as B
 use Rattle.block.specs.Promises as block
 use Rattle.report.specs.declared.Kind.{Kind}
 use Rattle.report.specs.declared.Kind.TheVariants as K
@@ -21,23 +17,23 @@ letter K.Ring = 82
 letter K.Block = 66
 
 -- for a line the distance and the number
-abbrev pub line_fields : LineReading → List ℕ
-line_fields (L.Line number distance first last) = 0 ∷ distance ∷ number ∷ []
-line_fields (L.Refused r) = number_of r ∷ 0 ∷ 0 ∷ []
+abbrev pub line_fields : Result Reading Refusal → List ℕ
+line_fields (Ok r) = 0 ∷ r.distance ∷ r.number ∷ []
+line_fields (Err r) = number_of r ∷ 0 ∷ 0 ∷ []
 
 -- for a ring the start and the distance
-abbrev pub ring_fields : RingReading → List ℕ
-ring_fields (R.Line start number distance first last) = 0 ∷ start ∷ distance ∷ []
-ring_fields (R.Refused r) = number_of r ∷ 0 ∷ 0 ∷ []
+abbrev pub ring_fields : Result RingReading Refusal → List ℕ
+ring_fields (Ok r) = 0 ∷ r.start ∷ r.distance ∷ []
+ring_fields (Err r) = number_of r ∷ 0 ∷ 0 ∷ []
 
 -- for a block the distance and the row count
-abbrev pub block_fields : ℕ → BlockReading → List ℕ
-block_fields rows (B.Block distance) = 0 ∷ distance ∷ rows ∷ []
-block_fields rows (B.Refused r) = number_of r ∷ 0 ∷ 0 ∷ []
+abbrev pub block_fields : ℕ → Result ℕ Refusal → List ℕ
+block_fields rows (Ok distance) = 0 ∷ distance ∷ rows ∷ []
+block_fields rows (Err r) = number_of r ∷ 0 ∷ 0 ∷ []
 
 -- the fields of what a reader answers, with an output of its length, whatever lay in it
-pub record Read {Reading : Type 0} (Reads : List ℕ → Reading → List ℕ → Type 0) (room : ℕ) (fields_of : Reading → List ℕ) (fields : List ℕ) : Type 0 where
-  pub reading : Reading
+pub record Read {R : Type 0} (Reads : List ℕ → R → List ℕ → Type 0) (room : ℕ) (fields_of : R → List ℕ) (fields : List ℕ) : Type 0 where
+  pub reading : R
   pub old : List ℕ
   pub new : List ℕ
   pub long : length old ≡ room
@@ -46,7 +42,7 @@ pub record Read {Reading : Type 0} (Reads : List ℕ → Reading → List ℕ �
 
 -- of a line, read with no wanted number
 abbrev pub LineFields : ℕ → List ℕ → List ℕ → Type 0
-LineFields t word = Read (λ old r new. line.Reads word t W.Any old (line.reading_numbers r) new) 63 line_fields
+LineFields t word = Read (λ old r new. line.Reads word t None old (line.reading_numbers r) new) 63 line_fields
 
 -- of a ring
 abbrev pub RingFields : ℕ → List ℕ → List ℕ → Type 0

@@ -1,16 +1,15 @@
 -- What the report promises: the file's report at the start of the buffer, and its length.
-use Rattle.std.specs.Prelude.{◌≡◌, List, [], ◌∷◌, ◌++◌, ℕ, ◌≤◌, length, drop}
+use Rattle.std.specs.Prelude.{◌≡◌, List, [], ◌∷◌, ◌++◌, ℕ, ◌≤◌, length, drop, Result, Ok, Err}
+use Rattle.refusal.specs.declared.Refusal.{Refusal}
 use Rattle.refusal.specs.declared.Refusal.TheVariants.{OutputLength}
 use Rattle.refusal.specs.Number.{number_of}
 use Rattle.refusal.specs.Promise.{Test, ◌else◌, Promise}
-use Rattle.report.specs.declared.Reported.{Reported}
-use Rattle.report.specs.declared.Reported.TheVariants as R
 use Rattle.report.specs.Printed.{Report, report_room}
 
 -- the numbers of a report: the answer, and the text's length
-abbrev pub report_numbers : Reported → List ℕ
-report_numbers (R.Text n) = 0 ∷ n ∷ []
-report_numbers (R.Refused r) = number_of r ∷ 0 ∷ []
+abbrev pub report_numbers : Result ℕ Refusal → List ℕ
+report_numbers (Ok n) = 0 ∷ n ∷ []
+report_numbers (Err r) = number_of r ∷ 0 ∷ []
 
 -- the report asks for a buffer that has room for any
 abbrev pub report_tests : ℕ → List Test

@@ -7,12 +7,11 @@ use Rattle.code.specs.Word.{nowhere}
 use Rattle.code.proofs.Changes.{First, Last}
 use Rattle.line.specs.Promises.{told}
 use Rattle.line.proofs.Theorems.{told_first, told_last, told_unchanged}
-use Rattle.ring.specs.declared.RingReading.TheVariants as R
 use Rattle.ring.specs.Ring.{placed}
-use Rattle.ring.specs.Promises.{reading_numbers, ReadsAt, ReadsRing}
+use Rattle.ring.specs.Promises.{reading_numbers, line_read, ReadsAt, ReadsRing}
 use Rattle.ring.proofs.Placing.{kept}
 
-module _ (ring : List ℕ) (t : ℕ) (old : List ℕ) (k n d f g : ℕ) (x : List ℕ) (reads : ReadsRing ring t old (reading_numbers (R.Line k n d f g)) x) where
+module _ (ring : List ℕ) (t : ℕ) (old : List ℕ) (k n d f g : ℕ) (x : List ℕ) (reads : ReadsRing ring t old (reading_numbers (line_read k n d f g)) x) where
   read-there : ReadsAt ring t (k ∷ n ∷ d ∷ f ∷ g ∷ []) x
   unfolding ReadsRing
   read-there = reads.1

@@ -1,13 +1,14 @@
 -- The filter in front of listing: where it has a 0 the start is not listed.
 use mathlib.Core.Path.{◌≡◌, sym, ap, ap₂, ◌∙◌, subst}
-use mathlib.Core.Bool.{Bool, true, false, cond}
+use mathlib.Core.Bool.{Bool, false, cond, not}
 use mathlib.Core.Logic.{⊎_elim}
 use mathlib.Core.List.{List}
 use Prim.Native.Nat.{ℕ, ◌+◌, ◌-◌, ◌/◌, ◌%◌, ◌^◌, ◌<◌, ◌≤◌}
 use native.Mathlib.Nat.{mod-eq_of_lt, le_trans}
 use native.Mathlib.Omega.{arith}
+use lib.Dec.{eqb}
 use lib.ListN.{length, get_or}
-use borrow.Author.Tests.{lt-ltb, le-ltb}
+use borrow.Author.Tests.{lt-ltb, le-ltb, eqb-true, not-false}
 use Rattle.numbers.proofs.Cases.{le_or_lt}
 use Rattle.refusal.specs.Promise.{Tells}
 use Rattle.refusal.proofs.Laws.{tells_no}
@@ -21,7 +22,6 @@ use Rattle.sums.specs.Held.{eleven}
 use Rattle.sums.proofs.Holding.{eleven_long, eleven_characters}
 use Rattle.code.proofs.Words.{listed_get, added_get}
 use Rattle.mender.specs.Mender.{Fits}
-use Rattle.mender.proofs.Finding.{true_false}
 use Rattle.ring.specs.declared.Undecided.{Undecided}
 use Rattle.ring.specs.Inside.{MarkSums, ErrorsFit}
 use Rattle.ring.specs.Marks.{MarksIn}
@@ -88,12 +88,10 @@ told_not u k s t b n m e =
     n.none (m.not e) x.0
     (let f = x.1 in record { long = f.long; characters = f.characters; light = le_trans f.light (omega arith); sums = f.sums }))
 
--- a bit that is 0
-pub forward_none : (u : Undecided) (k : ℕ) → k < 63 → u.forward / 2 ^ k % 2 ≡ 0 → MayList u k false
-forward_none u k h z = record { not = λ e. sym (undecided_forward u k h) ∙ z }
+-- whether a bit is not 0
+pub forward_told : (u : Undecided) (k : ℕ) → k < 63 → MayList u k (not (eqb (u.forward / 2 ^ k % 2) 0))
+forward_told u k h = record { not = λ e. sym (undecided_forward u k h) ∙ eqb-true (u.forward / 2 ^ k % 2) 0 (not-false (eqb (u.forward / 2 ^ k % 2) 0) e) }
 
-pub backward_none : (u : Undecided) (k : ℕ) → 63 ≤ k → u.backward / 2 ^ (k - 63) % 2 ≡ 0 → MayList u k false
-backward_none u k h z = record { not = λ e. sym (undecided_backward u k h) ∙ z }
-
-pub may_list : (u : Undecided) (k : ℕ) → MayList u k true
-may_list u k = record { not = λ e. absurd (true_false e) }
+pub backward_told : (u : Undecided) (k : ℕ) → 63 ≤ k → MayList u k (not (eqb (u.backward / 2 ^ (k - 63) % 2) 0))
+backward_told u k h =
+    record { not = λ e. sym (undecided_backward u k h) ∙ eqb-true (u.backward / 2 ^ (k - 63) % 2) 0 (not-false (eqb (u.backward / 2 ^ (k - 63) % 2) 0) e) }

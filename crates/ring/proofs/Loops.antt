@@ -1,5 +1,5 @@
 -- What the code of rings does, a turn and a way out at a time, over plain variables.
-use mathlib.Core.Path.{◌≡◌, refl, sym, ap, ◌∙◌, subst}
+use mathlib.Core.Path.{◌≡◌, refl, sym, ap, ◌∙◌, subst, subst₂}
 use mathlib.Core.Bool.{Bool, true, false, cond}
 use mathlib.Core.Logic.{⊎_elim}
 use mathlib.Core.List.{List, [], ◌∷◌, ◌++◌, append-nil, append_assoc}
@@ -10,27 +10,28 @@ use lib.ListN.{length, get_or, set, drop, length-append, length-set}
 use lib.Seq.{drop-cons, set_at, append_snoc, get_or-set_same, get_or-set_other}
 use borrow.Author.Count.{below_none, below_more}
 use borrow.Author.Tests.{lt-ltb, le-ltb}
+use Rattle.std.specs.Prelude.{Option, Some, None, is_some, ◌↔◌, IsTrue}
+use Rattle.std.proofs.lemmas.Bool.{false≢true}
 use Rattle.numbers.proofs.Cases.{le_or_lt}
 use Rattle.refusal.specs.Promise.{Tells}
 use Rattle.code.specs.Word.{added}
-use Rattle.sums.specs.Held.{eleven}
 use Rattle.code.proofs.Words.{same_word}
 use Rattle.code.proofs.Turning.{turned_get, reversed_get}
 use Rattle.mender.specs.declared.Mended.{Mended}
 use Rattle.mender.specs.Mender.{Mends}
 use Rattle.ring.specs.Ring.{placed, Those, end, included, excluded}
-use Rattle.ring.specs.Inside.{ErrorsFit, ErrorsFitAt, ListsThose, place_of, AllGains, LightAt}
+use Rattle.ring.specs.Inside.{ErrorsFit, ErrorsFitAt, Tested, tested_end, tested_true, tested_false, ListsWhere, ListsThose, place_of, AllGains, LightBy}
 use Rattle.ring.specs.declared.Undecided.{Undecided}
 use Rattle.ring.specs.Marks.{marks_of, MarksAtAll}
 use Rattle.ring.specs.Filter.{NoErrorsAt, Decides}
 use Rattle.ring.proofs.Placing.{kept, placed_forward, placed_backward}
-use Rattle.ring.proofs.Those.{moved}
 use Rattle.ring.proofs.Starts.{marks_only}
 
 -- ---- whether errors have given sums
 
-pub mend_told : (s : List ℕ) (t : ℕ) (m : Mended) → Mends s 11 t m → Tells (ErrorsFit s t) m.found
-mend_told s t m p = record { holds = λ e. (m.word, p.fits e); fails = λ e x. p.none e x.0 x.1 }
+pub mend_told : (s : List ℕ) (t : ℕ) (m : Option Mended) (b : Bool) → Mends s 11 t m → b ≡ is_some m → Tells (ErrorsFit s t) b
+mend_told s t (Some m) b p e = record { holds = λ q. (m.word, p.fits); fails = λ q. absurd (false≢true (sym q ∙ e)) }
+mend_told s t None b p e = record { holds = λ q. absurd (false≢true (sym e ∙ q)); fails = λ q x. p.none x.0 x.1 }
 
 -- ---- the word at a start
 
@@ -82,7 +83,10 @@ placed_all ring k word a t h = same_word word (placed k ring) t.long ((kept k).l
 
 -- ---- the list: of the starts below k those with the property are listed, and whatever lists the rest completes the list
 
-pub record ListedTo (P : ℕ → Type 0) (old out : List ℕ) (n k : ℕ) : Type 0 where
+moved_test : {T : ℕ → Bool → Type 0} {n m k j : ℕ} {l : List ℕ} → n ≡ m → k ≡ j → Tested T n k l → Tested T m j l
+moved_test {T} {l = l} p q t = subst₂ (λ (n k : ℕ). Tested T n k l) p q t
+
+pub record ListedTo (T : ℕ → Bool → Type 0) (old out : List ℕ) (n k : ℕ) : Type 0 where
   pub room : length old ≡ 126
   pub most : k ≤ 126
   pub few : n ≤ k
@@ -90,10 +94,10 @@ pub record ListedTo (P : ℕ → Type 0) (old out : List ℕ) (n k : ℕ) : Type
   pub starts : List ℕ
   pub count : n ≡ length starts
   pub output : out ≡ starts ++ drop n old
-  pub whole : (more : List ℕ) → Those P (126 - k) k more → Those P 126 0 (starts ++ more)
+  pub whole : (more : List ℕ) → Tested T (126 - k) k more → Tested T 126 0 (starts ++ more)
 
-pub listed_none : (P : ℕ → Type 0) (old : List ℕ) → length old ≡ 126 → ListedTo P old old 0 0
-listed_none P old room =
+pub listed_none : (T : ℕ → Bool → Type 0) (old : List ℕ) → length old ≡ 126 → ListedTo T old old 0 0
+listed_none T old room =
     record {
       room = room;
       most = omega arith;
@@ -105,9 +109,9 @@ listed_none P old room =
       whole = λ more t. t;
     }
 
-module _ (P : ℕ → Type 0) (old out : List ℕ) (n k n' : ℕ) (out' : List ℕ) (s : ListedTo P old out n k) (h : k < 126) where
-  pub listed_one : P k → n' ≡ n + 1 → out' ≡ set out n k → ListedTo P old out' n' (k + 1)
-  listed_one holds en eo =
+module _ (T : ℕ → Bool → Type 0) (old out : List ℕ) (n k n' : ℕ) (out' : List ℕ) (s : ListedTo T old out n k) (h : k < 126) where
+  pub listed_one : (b : Bool) → T k b → b ≡ true → n' ≡ n + 1 → out' ≡ set out n k → ListedTo T old out' n' (k + 1)
+  listed_one b told is en eo =
       let c : n ≡ length s.starts = s.count in
       let x : set out n k ≡ (s.starts ++ (k ∷ [])) ++ drop (n + 1) old =
       ap (λ (l : List ℕ). set l n k) (s.output ∙ ap (λ (l : List ℕ). s.starts ++ l) (drop-cons old n 0 (omega (arith, s.room, s.few))))
@@ -122,11 +126,11 @@ module _ (P : ℕ → Type 0) (old out : List ℕ) (n k n' : ℕ) (out' : List �
         starts = s.starts ++ (k ∷ []);
         count = rw (length-append s.starts (k ∷ [])) (omega arith);
         output = rw en (eo ∙ x);
-        whole = λ more r. rw append_assoc (s.whole (k ∷ more) (moved {n = suc (126 - (k + 1))} (omega arith) refl (included holds (moved refl (add-one k) r))));
+        whole = λ more r. rw append_assoc (s.whole (k ∷ more) (moved_test {n = suc (126 - (k + 1))} (omega arith) refl (tested_true (subst (T k) is told) (moved_test refl (add-one k) r))));
       }
 
-  pub listed_not : (P k → ⊥) → n' ≡ n → out' ≡ out → ListedTo P old out' n' (k + 1)
-  listed_not fails en eo =
+  pub listed_not : (b : Bool) → T k b → b ≡ false → n' ≡ n → out' ≡ out → ListedTo T old out' n' (k + 1)
+  listed_not b told is en eo =
       record {
         room = s.room;
         most = omega arith;
@@ -135,42 +139,43 @@ module _ (P : ℕ → Type 0) (old out : List ℕ) (n k n' : ℕ) (out' : List �
         starts = s.starts;
         count = en ∙ s.count;
         output = rw en (eo ∙ s.output);
-        whole = λ more r. s.whole more (moved {n = suc (126 - (k + 1))} (omega arith) refl (excluded fails (moved refl (add-one k) r)));
+        whole = λ more r. s.whole more (moved_test {n = suc (126 - (k + 1))} (omega arith) refl (tested_false (subst (T k) is told) (moved_test refl (add-one k) r)));
       }
 
-pub listed_all : (P : ℕ → Type 0) (old out : List ℕ) (n k : ℕ) → ListedTo P old out n k → 126 ≤ k → ListsThose P old (n ∷ []) out
-listed_all P old out n k s h =
+pub listed_all : (T : ℕ → Bool → Type 0) (old out : List ℕ) (n k : ℕ) → ListedTo T old out n k → 126 ≤ k → ListsWhere T old (n ∷ []) out
+listed_all T old out n k s h =
     record {
       starts = s.starts;
-      these = rw append-nil at (s.whole [] (moved {n = 0} (omega (arith, s.most)) refl end));
+      these = rw append-nil at (s.whole [] (moved_test {n = 0} (omega (arith, s.most)) refl tested_end));
       count = ap (λ (c : ℕ). c ∷ []) s.count;
       output = s.output ∙ ap (λ (j : ℕ). s.starts ++ drop j old) s.count;
     }
 
+-- where the test tells a property, those are the starts that have it
+tested_those : {T : ℕ → Bool → Type 0} {P : ℕ → Type 0} {n k : ℕ} {ks : List ℕ} → ((j : ℕ) (b : Bool) → j < k + n → T j b → Tells (P j) b) → Tested T n k ks → Those P n k ks
+tested_those tells tested_end = end
+tested_those tells (tested_true {k = k} t s) = included ((tells k true (omega arith) t).holds refl) (tested_those (λ j b h. tells j b (omega arith)) s)
+tested_those tells (tested_false {k = k} t s) = excluded ((tells k false (omega arith) t).fails refl) (tested_those (λ j b h. tells j b (omega arith)) s)
+
+pub lists_those : (T : ℕ → Bool → Type 0) (P : ℕ → Type 0) (old fields new : List ℕ) → ((j : ℕ) (b : Bool) → j < 126 → T j b → Tells (P j) b)
+    → ListsWhere T old fields new → ListsThose P old fields new
+lists_those T P old fields new tells l = record { starts = l.starts; these = tested_those tells l.these; count = l.count; output = l.output }
+
 -- ---- a start by its sums
 
-module _ (sums : List ℕ) (k t : ℕ) (firsts lasts d : List ℕ) (b : Bool) (ms : MarksAtAll (record { firsts = firsts; lasts = lasts })) (h : k < 126)
-    (ed : d ≡ added sums (eleven (record { first = get_or firsts k 0; last = get_or lasts k 0 }))) (tells : Tells (ErrorsFit d t) b) where
-  told : Tells (ErrorsFitAt sums t k) b
-  told =
-      subst (λ (x : List ℕ). Tells (ErrorsFit x t) b) (ed ∙ ap (added sums) (marks_only k (marks_of (record { firsts = firsts; lasts = lasts }) k) (ms.at k h))) tells
+module _ (sums : List ℕ) (k : ℕ) (m : List (ℕ × ℕ)) (d : List ℕ) (ms : MarksAtAll m) (h : k < 126) (ed : d ≡ added sums (marks_of m k)) where
+  pub told_here : (t : ℕ) (b : Bool) → Tells (ErrorsFit d t) b → Tells (ErrorsFitAt sums t k) b
+  told_here t b tells = subst (λ (x : List ℕ). Tells (ErrorsFit x t) b) (ed ∙ ap (added sums) (marks_only k (marks_of m k) (ms.at k h))) tells
 
-  pub errors_here : b ≡ true → ErrorsFitAt sums t k
-  errors_here e = told.holds e
-
-  pub none_here : b ≡ false → ErrorsFitAt sums t k → ⊥
-  none_here e = told.fails e
-
--- where the filter has a 0 at this start, no errors have its sums
-pub no_errors_here : (sums : List ℕ) (k : ℕ) (firsts lasts : List ℕ) (u : Undecided) (d : List ℕ) → Decides sums u → MarksAtAll (record { firsts = firsts; lasts = lasts })
-    → k < 126 → d ≡ added sums (eleven (record { first = get_or firsts k 0; last = get_or lasts k 0 })) → NoErrorsAt u k d
-no_errors_here sums k firsts lasts u d f ms h e = subst (NoErrorsAt u k) (sym e) (f.decided k _ h (ms.at k h))
+  -- where the filter has a 0 at this start, no errors have its sums
+  pub no_errors_here : (u : Undecided) → Decides sums u → NoErrorsAt u k d
+  no_errors_here u f = subst (NoErrorsAt u k) (sym ed) (f.decided k _ h (ms.at k h))
 
 -- ---- a start by what its marks add
 
-module _ (e r : List ℕ) (w t k m : ℕ) (all : AllGains e r) (h : k < 126) (light : w ≤ t + 3) (em : m ≡ t + 3 - w) where
-  pub light_here : get_or r k 0 ≤ m → LightAt e w t k
-  light_here g = omega (arith, all.at k h)
-
-  pub heavy_here : m < get_or r k 0 → LightAt e w t k → ⊥
-  heavy_here g l = omega (arith, all.at k h)
+pub light_told : (e r : List ℕ) (m k : ℕ) (b : Bool) → AllGains e r → k < 126 → (IsTrue b ↔ (get_or r k 0 ≤ m)) → Tells (LightBy e m k) b
+light_told e r m k b all h told =
+    record {
+      holds = λ q. let g : get_or r k 0 ≤ m = told.0 q in omega (arith, all.at k h);
+      fails = λ q l. false≢true (sym q ∙ told.1 (omega (arith, all.at k h)));
+    }

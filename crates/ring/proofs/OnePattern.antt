@@ -2,7 +2,7 @@
 use mathlib.Core.Path.{◌≡◌, refl, sym, ap, ap₂, ◌∙◌, subst, subst₂}
 use mathlib.Core.Bool.{Bool, true, false, cond}
 use mathlib.Core.List.{List, [], ◌∷◌}
-use Prim.Native.Nat.{ℕ, zero, suc, min, ◌+◌, ◌<◌, ◌≤◌}
+use Prim.Native.Nat.{ℕ, zero, suc, min, ◌+◌, ◌-◌, ◌<◌, ◌≤◌}
 use native.Mathlib.Nat.{le_trans, le_of_eq}
 use native.Mathlib.Omega.{arith}
 use lib.Dec.{eqb, eqb-zero-suc, eqb-suc-zero}
@@ -17,11 +17,12 @@ use Rattle.code.proofs.Sums.{power_sum_added}
 use Rattle.code.proofs.Distances.{distance_weight, distance_comm, distance_added, triangle}
 use Rattle.code.proofs.Lines.{clean_line, marks_long, marks_weight, unmarked, line_long}
 use Rattle.code.proofs.Apart.{clean_near}
+use Rattle.std.specs.Prelude.{Some, None}
 use Rattle.mender.specs.declared.Mended.{Mended}
 use Rattle.mender.specs.Mender.{Fits, Mends, Word}
 use Rattle.ring.specs.Ring.{placed, Start, ListOf}
 use Rattle.ring.specs.Promises.{Lists}
-use Rattle.ring.specs.Inside.{seen, marks_at, Listable, ListsThose, place_of, errors_at, gain, gains, LightAt, Deciding}
+use Rattle.ring.specs.Inside.{seen, marks_at, Listable, ListsThose, place_of, errors_at, gain, gains, LightBy, Deciding}
 use Rattle.ring.proofs.Placing.{kept, placed_again}
 use Rattle.ring.proofs.marks.Marks.{marks_at_long, marks_placed}
 use Rattle.ring.proofs.Those.{those_same, none_those}
@@ -200,8 +201,8 @@ mark_hit ring c t k long clean h small many start x y z =
 
 -- ---- the errors that mending finds, from the ring's power sums
 
-pub word_of : (ring : List ℕ) (t room : ℕ) → Listable ring t room → Word ring
-word_of ring t room asked = record { long = asked.long; characters = asked.characters }
+pub word_of : (ring : List ℕ) (t : ℕ) → Listable ring t → Word ring
+word_of ring t asked = record { long = asked.long; characters = asked.characters }
 
 added_back : (u v : List ℕ) → length u ≡ length v → added u (added u v) ≡ v
 added_back u v h = added_comm u (added u v) ∙ ap (λ (w : List ℕ). added w u) (added_comm u v) ∙ added_twice v u (sym h)
@@ -231,39 +232,45 @@ module _ (ring sums : List ℕ) (word : Word ring) (us : PowerSums ring sums) wh
             ∙ sym (power_sum_added (58 + i) ring c same);
       }
 
-  module _ (t m : ℕ) (old : List ℕ) (deciding : Deciding t m) (found : Mended) (mends : Mends sums 11 m found) where
-    light-all : found.found ≡ true → found.weight ≤ m
-    light-all q = let f = (mends.fits q).light in let w = mends.weighs q in omega arith
+  module _ (t m : ℕ) (old : List ℕ) (deciding : Deciding t m) where
+    module _ (found : Mended) (mends : Mends sums 11 m (Some found)) where
+      light-all : found.weight ≤ m
+      light-all = let f = mends.fits.light in let w = mends.weighs in omega arith
 
-    pub pattern_light : found.found ≡ true → found.weight ≤ t + 3
-    pattern_light q = le_trans (light-all q) deciding.light
+      pub pattern_light : found.weight ≤ t + 3
+      pattern_light = le_trans light-all deciding.light
 
-    -- those starts whose marks leave few enough errors are those that are listed
-    pub by_pattern : (f new : List ℕ) → found.found ≡ true → ListsThose (LightAt found.word found.weight t) old f new → Lists ring t old f new
-    by_pattern f new q l =
-        let fits : Fits sums 11 (min m 5) found.word = mends.fits q in
-        let same : length ring ≡ length found.word = word.long ∙ sym fits.long in
-        let back : added ring (added ring found.word) ≡ found.word = added_back ring found.word same in
-        let far : distance ring (added ring found.word) ≡ found.weight = distance_added ring found.word same ∙ sym (mends.weighs q) in
-        let clean : Clean (added ring found.word) = fits-clean (min m 5) found.word fits in
-        let few = light-all q in
-        let apart = deciding.apart in
-        let both : (k : ℕ) → k < 126 → (Start t ring k → LightAt found.word found.weight t k) × (LightAt found.word found.weight t k → Start t ring k) =
-        λ k h.
-        subst₂ (λ (d : ℕ) (x : List ℕ). (Start t ring k → d + gains k x ≤ t + 3) × (d + gains k x ≤ t + 3 → Start t ring k)) far back
-        (listed_by_count ring (added ring found.word) t k word.long clean h (omega arith))
-        in
-        record { starts = l.starts; these = those_same (λ k h. (both k h).1) (λ k h. (both k h).0) l.these; count = l.count; output = l.output }
+      -- those starts whose marks leave few enough errors are those that are listed
+      pub by_pattern : (n : ℕ) → n ≡ t + 3 - found.weight → (f new : List ℕ) → ListsThose (LightBy found.word n) old f new → Lists ring t old f new
+      by_pattern n e f new l =
+          let same : length ring ≡ length found.word = word.long ∙ sym mends.fits.long in
+          let back : added ring (added ring found.word) ≡ found.word = added_back ring found.word same in
+          let far : distance ring (added ring found.word) ≡ found.weight = distance_added ring found.word same ∙ sym mends.weighs in
+          let clean : Clean (added ring found.word) = fits-clean (min m 5) found.word mends.fits in
+          let few = light-all in
+          let light = pattern_light in
+          let apart = deciding.apart in
+          let both : (k : ℕ) → k < 126 → (Start t ring k → found.weight + gains k found.word ≤ t + 3) × (found.weight + gains k found.word ≤ t + 3 → Start t ring k) =
+          λ k h.
+          subst₂ (λ (d : ℕ) (x : List ℕ). (Start t ring k → d + gains k x ≤ t + 3) × (d + gains k x ≤ t + 3 → Start t ring k)) far back
+          (listed_by_count ring (added ring found.word) t k word.long clean h (omega arith))
+          in
+          record {
+            starts = l.starts;
+            these = those_same (λ k h g. (both k h).1 (omega arith)) (λ k h s. let g = (both k h).0 s in omega arith) l.these;
+            count = l.count;
+            output = l.output;
+          }
 
     -- and where there is no such pattern, none is listed up to radius 2
-    pub by_none : found.found ≡ false → t ≤ 2 → Lists ring t old (0 ∷ []) old
-    by_none q small =
+    pub by_none : Mends sums 11 m None → t ≤ 2 → Lists ring t old (0 ∷ []) old
+    by_none none small =
         record {
           starts = [];
           these =
               none_without_pattern ring t word.long
               (λ c clean near.
-              mends.none q (added ring c) (clean-fits (min m 5) c clean (let a = deciding.enough small in let b = deciding.few in omega arith)));
+              none.none (added ring c) (clean-fits (min m 5) c clean (let a = deciding.enough small in let b = deciding.few in omega arith)));
           count = refl;
           output = refl;
         }

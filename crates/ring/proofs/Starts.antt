@@ -114,7 +114,7 @@ marks_only k s m =
     (λ i h. let l : i < 11 = omega (arith, m.long) in m.sum_at i l ∙ sym (all.sum_at i l))
 
 -- those starts for which errors have the sums are those that are listed
-pub by_sums : (ring sums : List ℕ) (t : ℕ) (old f new : List ℕ) → Listable ring t (length old) → PowerSums ring sums → ListsThose (ErrorsFitAt sums t) old f new
+pub by_sums : (ring sums : List ℕ) (t : ℕ) (old f new : List ℕ) → Listable ring t → PowerSums ring sums → ListsThose (ErrorsFitAt sums t) old f new
     → Lists ring t old f new
 by_sums ring sums t old f new asked us l =
     let word : Word ring = record { long = asked.long; characters = asked.characters } in

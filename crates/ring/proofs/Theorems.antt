@@ -5,6 +5,8 @@ use Prim.Native.Nat.{ℕ, suc, ◌+◌, ◌-◌, ◌%◌, ◌<◌, ◌≤◌}
 use native.Mathlib.Nat.{le_of_eq}
 use native.Mathlib.Omega.{arith}
 use lib.ListN.{length, get_or, replicate, drop, length-append}
+use Rattle.std.specs.Prelude.{Result, Ok, Err}
+use Rattle.refusal.specs.declared.Refusal.{Refusal}
 use Rattle.refusal.specs.declared.Refusal.TheVariants.{ManyStarts}
 use Rattle.refusal.specs.Number.{number_of}
 use Rattle.refusal.proofs.Laws.{one_refusal, refusal_positive, one_answer}
@@ -19,14 +21,11 @@ use Rattle.code.proofs.Turning.{turned_get, reversed_get}
 use Rattle.code.proofs.Theorems.{zero_line}
 use Rattle.line.specs.Promises.{Within, told}
 use Rattle.line.proofs.Theorems.{one_within}
-use Rattle.ring.specs.declared.RingListing.{RingListing}
-use Rattle.ring.specs.declared.RingListing.TheVariants as L
 use Rattle.ring.specs.declared.RingReading.{RingReading}
-use Rattle.ring.specs.declared.RingReading.TheVariants as R
 use Rattle.ring.specs.Ring.{placed, Start, Those, ListOf, At}
 use Rattle.ring.specs.Recording.{recorded}
 use Rattle.ring.specs.FalseStarts.{counted_from, mark_distances, false_starts, is_in, rising, recorded_starts}
-use Rattle.ring.specs.Promises.{listing_numbers, reading_numbers, listing_tests, Lists, ListsRing, reading_tests, ReadsAt, ReadsRing}
+use Rattle.ring.specs.Promises.{listing_numbers, reading_numbers, line_read, listing_tests, Lists, ListsRing, reading_tests, ReadsAt, ReadsRing}
 use Rattle.ring.specs.Inside.{seen}
 use Rattle.ring.proofs.Placing.{kept, placed_forward, placed_backward, seen_placed, seen_zero, seen_forward, seen_backward}
 use Rattle.ring.proofs.Recording.{recorded_long, recorded_characters, placed_recorded, recorded_only, recorded_apart}
@@ -97,20 +96,20 @@ module _ (ring : List ℕ) (t : ℕ) (starts : List ℕ) (these : ListOf t ring 
 -- ---- one result
 
 -- the numbers fix the answer
-one_ring_listing : (r s : RingListing) → listing_numbers r ≡ listing_numbers s → r ≡ s
-one_ring_listing (L.Listed n) (L.Listed m) q = ap L.Listed (ap (λ (l : List ℕ). get_or l 1 0) q)
-one_ring_listing (L.Listed n) (L.Refused s) q = absurd (refusal_positive s (sym (ap (λ (l : List ℕ). get_or l 0 0) q)))
-one_ring_listing (L.Refused r) (L.Listed m) q = absurd (refusal_positive r (ap (λ (l : List ℕ). get_or l 0 0) q))
-one_ring_listing (L.Refused r) (L.Refused s) q = ap L.Refused (one_refusal r s (ap (λ (l : List ℕ). get_or l 0 0) q))
+one_ring_listing : (r s : Result ℕ Refusal) → listing_numbers r ≡ listing_numbers s → r ≡ s
+one_ring_listing (Ok n) (Ok m) q = ap Ok (ap (λ (l : List ℕ). get_or l 1 0) q)
+one_ring_listing (Ok n) (Err s) q = absurd (refusal_positive s (sym (ap (λ (l : List ℕ). get_or l 0 0) q)))
+one_ring_listing (Err r) (Ok m) q = absurd (refusal_positive r (ap (λ (l : List ℕ). get_or l 0 0) q))
+one_ring_listing (Err r) (Err s) q = ap Err (one_refusal r s (ap (λ (l : List ℕ). get_or l 0 0) q))
 
-one_ring_reading : (r s : RingReading) → reading_numbers r ≡ reading_numbers s → r ≡ s
-one_ring_reading (R.Line k n d f t) (R.Line j m e g u) q =
-    ap (λ (x : ℕ). R.Line x n d f t) (ap (λ (l : List ℕ). get_or l 1 0) q)
-    ∙ ap₂ (λ (x y : ℕ). R.Line j x y f t) (ap (λ (l : List ℕ). get_or l 2 0) q) (ap (λ (l : List ℕ). get_or l 3 0) q)
-    ∙ ap₂ (λ (x y : ℕ). R.Line j m e x y) (ap (λ (l : List ℕ). get_or l 4 0) q) (ap (λ (l : List ℕ). get_or l 5 0) q)
-one_ring_reading (R.Line k n d f t) (R.Refused s) q = absurd (refusal_positive s (sym (ap (λ (l : List ℕ). get_or l 0 0) q)))
-one_ring_reading (R.Refused r) (R.Line j m e g u) q = absurd (refusal_positive r (ap (λ (l : List ℕ). get_or l 0 0) q))
-one_ring_reading (R.Refused r) (R.Refused s) q = ap R.Refused (one_refusal r s (ap (λ (l : List ℕ). get_or l 0 0) q))
+one_ring_reading : (r s : Result RingReading Refusal) → reading_numbers r ≡ reading_numbers s → r ≡ s
+one_ring_reading (Ok r) (Ok s) q =
+    ap (λ (x : ℕ). line_read x r.number r.distance r.first r.last) (ap (λ (l : List ℕ). get_or l 1 0) q)
+    ∙ ap₂ (λ (x y : ℕ). line_read s.start x y r.first r.last) (ap (λ (l : List ℕ). get_or l 2 0) q) (ap (λ (l : List ℕ). get_or l 3 0) q)
+    ∙ ap₂ (λ (x y : ℕ). line_read s.start s.number s.distance x y) (ap (λ (l : List ℕ). get_or l 4 0) q) (ap (λ (l : List ℕ). get_or l 5 0) q)
+one_ring_reading (Ok r) (Err s) q = absurd (refusal_positive s (sym (ap (λ (l : List ℕ). get_or l 0 0) q)))
+one_ring_reading (Err r) (Ok s) q = absurd (refusal_positive r (ap (λ (l : List ℕ). get_or l 0 0) q))
+one_ring_reading (Err r) (Err s) q = ap Err (one_refusal r s (ap (λ (l : List ℕ). get_or l 0 0) q))
 
 module _ (ring : List ℕ) (t : ℕ) where
   one-listed : (old f g x y : List ℕ) → Lists ring t old f x → Lists ring t old g y → (f ≡ g) × (x ≡ y)
@@ -125,7 +124,7 @@ module _ (ring : List ℕ) (t : ℕ) where
       (p.shows ∙ ap₂ (λ (k : ℕ) (l : List ℕ). k ∷ told (placed k ring) l) e h ∙ sym q.shows, h)
 
   -- any two results of listing are equal
-  pub one_listing : (old : List ℕ) (r s : RingListing) (x y : List ℕ) → ListsRing ring t old (listing_numbers r) x → ListsRing ring t old (listing_numbers s) y
+  pub one_listing : (old : List ℕ) (r s : Result ℕ Refusal) (x y : List ℕ) → ListsRing ring t old (listing_numbers r) x → ListsRing ring t old (listing_numbers s) y
       → (r ≡ s) × (x ≡ y)
   unfolding ListsRing
   one_listing old r s x y p q =
@@ -133,7 +132,7 @@ module _ (ring : List ℕ) (t : ℕ) where
       (one_ring_listing r s e.0, e.1)
 
   -- any two results of reading are equal
-  pub one_reading : (old : List ℕ) (r s : RingReading) (x y : List ℕ) → ReadsRing ring t old (reading_numbers r) x → ReadsRing ring t old (reading_numbers s) y
+  pub one_reading : (old : List ℕ) (r s : Result RingReading Refusal) (x y : List ℕ) → ReadsRing ring t old (reading_numbers r) x → ReadsRing ring t old (reading_numbers s) y
       → (r ≡ s) × (x ≡ y)
   unfolding ReadsRing
   one_reading old r s x y p q =
@@ -142,7 +141,7 @@ module _ (ring : List ℕ) (t : ℕ) where
       (one_ring_reading r s e.0, e.1)
 
   -- and so are any two answers of reading, whatever lay in outputs of one length
-  pub same_reading : (old other : List ℕ) (r s : RingReading) (x y : List ℕ) → length old ≡ length other → ReadsRing ring t old (reading_numbers r) x
+  pub same_reading : (old other : List ℕ) (r s : Result RingReading Refusal) (x y : List ℕ) → length old ≡ length other → ReadsRing ring t old (reading_numbers r) x
       → ReadsRing ring t other (reading_numbers s) y → r ≡ s
   unfolding ReadsRing
   same_reading old other r s x y e p q =
@@ -155,18 +154,18 @@ module _ (ring : List ℕ) (t : ℕ) where
 module _ (ring : List ℕ) (t : ℕ) (long : length ring ≡ 63) (characters : Characters ring) (small : t ≤ 5) where
   -- listing yields the list, whatever its length, and leaves the rest of the output
   pub lists_list : (old starts : List ℕ) → length old ≡ 126 → ListOf t ring starts
-      → ListsRing ring t old (listing_numbers (L.Listed (length starts))) (starts ++ drop (length starts) old)
+      → ListsRing ring t old (listing_numbers (Ok (length starts))) (starts ++ drop (length starts) old)
   lists_list old starts room these =
       list_written ring t old (length starts ∷ []) (starts ++ drop (length starts) old) (long then room then characters then small then tt)
       (record { starts = starts; these = these; count = refl; output = refl })
 
   -- and every result of listing is such a list
-  pub listing_lists : (old : List ℕ) → length old ≡ 126 → (r : RingListing) (x : List ℕ) → ListsRing ring t old (listing_numbers r) x
-      → (starts : List ℕ) × ListOf t ring starts × (r ≡ L.Listed (length starts)) × (x ≡ starts ++ drop (length starts) old)
+  pub listing_lists : (old : List ℕ) → length old ≡ 126 → (r : Result ℕ Refusal) (x : List ℕ) → ListsRing ring t old (listing_numbers r) x
+      → (starts : List ℕ) × ListOf t ring starts × (r ≡ Ok (length starts)) × (x ≡ starts ++ drop (length starts) old)
   unfolding ListsRing
-  listing_lists old room (L.Listed n) x p =
-      let s = p.1 in (s.starts, s.these, ap (λ (l : List ℕ). L.Listed (get_or l 0 0)) s.count, s.output)
-  listing_lists old room (L.Refused s) x p =
+  listing_lists old room (Ok n) x p =
+      let s = p.1 in (s.starts, s.these, ap (λ (l : List ℕ). Ok (get_or l 0 0)) s.count, s.output)
+  listing_lists old room (Err s) x p =
       absurd
       (refusal_positive s
       (one_answer (listing_tests ring t (length old)) (number_of s) 0 p.0
@@ -174,7 +173,7 @@ module _ (ring : List ℕ) (t : ℕ) (long : length ring ≡ 63) (characters : C
 
   -- reading yields the line at the one start of a list with one entry
   pub reads_only_start : (old l : List ℕ) (k : ℕ) → length old ≡ 63 → ListOf t ring (k ∷ []) → Within t (placed k ring) l
-      → ReadsRing ring t old (reading_numbers (R.Line k (number l) (distance (placed k ring) l) (first_changed (placed k ring) l) (last_changed (placed k ring) l))) l
+      → ReadsRing ring t old (reading_numbers (line_read k (number l) (distance (placed k ring) l) (first_changed (placed k ring) l) (last_changed (placed k ring) l))) l
   reads_only_start old l k room only within =
       read ring t old (k ∷ told (placed k ring) l) l
       (long then room then characters then small then (k ∷ [], only, omega arith) then (k ∷ [], only, omega arith) then tt)
@@ -194,20 +193,20 @@ module _ (ring l : List ℕ) (k e t : ℕ) (long : length ring ≡ 63) (start : 
 
   module _ (characters : Characters ring) (old : List ℕ) where
     -- so every result of listing such a ring is that list
-    pub lists_true_start : length old ≡ 126 → (r : RingListing) (x : List ℕ) → ListsRing ring t old (listing_numbers r) x
-        → (r ≡ L.Listed 1) × (x ≡ k ∷ drop 1 old)
+    pub lists_true_start : length old ≡ 126 → (r : Result ℕ Refusal) (x : List ℕ) → ListsRing ring t old (listing_numbers r) x
+        → (r ≡ Ok 1) × (x ≡ k ∷ drop 1 old)
     lists_true_start room r x p =
-        one_listing ring t old r (L.Listed 1) x (k ∷ drop 1 old) p (lists_list ring t long characters (omega arith) old (k ∷ []) room true_start_alone)
+        one_listing ring t old r (Ok 1) x (k ∷ drop 1 old) p (lists_list ring t long characters (omega arith) old (k ∷ []) room true_start_alone)
 
     -- and every result of reading it is that line and that start
-    pub reads_true_start : length old ≡ 63 → (r : RingReading) (x : List ℕ) → ReadsRing ring t old (reading_numbers r) x
-        → (r ≡ R.Line k (number l) e (first_changed (placed k ring) l) (last_changed (placed k ring) l)) × (x ≡ l)
+    pub reads_true_start : length old ≡ 63 → (r : Result RingReading Refusal) (x : List ℕ) → ReadsRing ring t old (reading_numbers r) x
+        → (r ≡ line_read k (number l) e (first_changed (placed k ring) l) (last_changed (placed k ring) l)) × (x ≡ l)
     reads_true_start room r x p =
         let f : ℕ = first_changed (placed k ring) l in
         let g : ℕ = last_changed (placed k ring) l in
-        let q = one_reading ring t old r (R.Line k (number l) (distance (placed k ring) l) f g) x l p
+        let q = one_reading ring t old r (line_read k (number l) (distance (placed k ring) l) f g) x l p
         (reads_only_start ring t long characters (omega arith) old l k room true_start_alone (record { line = line; near = omega arith })) in
-        (q.0 ∙ ap (λ (d : ℕ). R.Line k (number l) d f g) apart, q.1)
+        (q.0 ∙ ap (λ (d : ℕ). line_read k (number l) d f g) apart, q.1)
 
 -- ---- demand 3: a line l, whatever its text, a start m, and a ring that differs from the line's recording at m in e places, e at most the radius t, and e + t at most 3
 
@@ -222,14 +221,14 @@ module _ (l ring : List ℕ) (m e t : ℕ) (line : Line l) (start : m < 126) (lo
 
   module _ (characters : Characters ring) (old : List ℕ) where
     -- every result of listing is a count of 1, the byte m, and the rest of the output as it was
-    pub lists_recorded : length old ≡ 126 → (r : RingListing) (x : List ℕ) → ListsRing ring t old (listing_numbers r) x
-        → (r ≡ L.Listed 1) × (x ≡ m ∷ drop 1 old)
+    pub lists_recorded : length old ≡ 126 → (r : Result ℕ Refusal) (x : List ℕ) → ListsRing ring t old (listing_numbers r) x
+        → (r ≡ Ok 1) × (x ≡ m ∷ drop 1 old)
     lists_recorded = lists_true_start ring l m e t long start line apart-there within together characters old
 
     -- every result of reading is the start m, the line's number, the distance e, the first and the last changed address of the word at m, and the line as
     -- the output
-    pub reads_recorded : length old ≡ 63 → (r : RingReading) (x : List ℕ) → ReadsRing ring t old (reading_numbers r) x
-        → (r ≡ R.Line m (number l) e (first_changed (placed m ring) l) (last_changed (placed m ring) l)) × (x ≡ l)
+    pub reads_recorded : length old ≡ 63 → (r : Result RingReading Refusal) (x : List ℕ) → ReadsRing ring t old (reading_numbers r) x
+        → (r ≡ line_read m (number l) e (first_changed (placed m ring) l) (last_changed (placed m ring) l)) × (x ≡ l)
     reads_recorded = reads_true_start ring l m e t long start line apart-there within together characters old
 
 -- ---- an undamaged ring: a line l, whatever its text and number, a start m, the line's recording at m with no wrong character, and a radius t
@@ -254,37 +253,37 @@ module _ (l : List ℕ) (m : ℕ) (line : Line l) (start : m < 126) where
     undamaged_list_long = starts_count m t start small
 
     -- so every result of listing is that count, these starts, and the rest of the output as it was
-    pub lists_undamaged : (old : List ℕ) → length old ≡ 126 → (r : RingListing) (x : List ℕ) → ListsRing (recorded m l) t old (listing_numbers r) x
-        → (r ≡ L.Listed (suc (length (false_starts t)))) × (x ≡ recorded_starts m t ++ drop (suc (length (false_starts t))) old)
+    pub lists_undamaged : (old : List ℕ) → length old ≡ 126 → (r : Result ℕ Refusal) (x : List ℕ) → ListsRing (recorded m l) t old (listing_numbers r) x
+        → (r ≡ Ok (suc (length (false_starts t)))) × (x ≡ recorded_starts m t ++ drop (suc (length (false_starts t))) old)
     lists_undamaged old room r x p =
-        let q = one_listing (recorded m l) t old r (L.Listed (length (recorded_starts m t))) x (recorded_starts m t ++ drop (length (recorded_starts m t)) old) p
+        let q = one_listing (recorded m l) t old r (Ok (length (recorded_starts m t))) x (recorded_starts m t ++ drop (length (recorded_starts m t)) old) p
         (lists_list (recorded m l) t (recorded_long m l) (recorded_characters m l (line_characters l line)) small old (recorded_starts m t) room undamaged_list) in
-        (q.0 ∙ ap L.Listed undamaged_list_long, q.1 ∙ ap (λ (n : ℕ). recorded_starts m t ++ drop n old) undamaged_list_long)
+        (q.0 ∙ ap Ok undamaged_list_long, q.1 ∙ ap (λ (n : ℕ). recorded_starts m t ++ drop n old) undamaged_list_long)
 
     -- and from radius 4 on every result of reading is refusal 10
-    pub reads_undamaged : 4 ≤ t → (old : List ℕ) → length old ≡ 63 → (r : RingReading) (x : List ℕ) → ReadsRing (recorded m l) t old (reading_numbers r) x
-        → (r ≡ R.Refused ManyStarts) × (x ≡ old)
+    pub reads_undamaged : 4 ≤ t → (old : List ℕ) → length old ≡ 63 → (r : Result RingReading Refusal) (x : List ℕ) → ReadsRing (recorded m l) t old (reading_numbers r) x
+        → (r ≡ Err ManyStarts) × (x ≡ old)
     reads_undamaged large old room r x p =
-        one_reading (recorded m l) t old r (R.Refused ManyStarts) x old p
+        one_reading (recorded m l) t old r (Err ManyStarts) x old p
         (let many = starts_many m t start large small in
         refused (recorded m l) t old 5
         (recorded_long m l then room then recorded_characters m l (line_characters l line) then small then (recorded_starts m t, undamaged_list, omega arith) then denied
         (λ (starts, those, few). omega (arith, ap length (one_those those undamaged_list)))))
 
-  module _ (old : List ℕ) (room : length old ≡ 126) (r : RingListing) (x : List ℕ) where
+  module _ (old : List ℕ) (room : length old ≡ 126) (r : Result ℕ Refusal) (x : List ℕ) where
     -- one start at radius 0 to 3
-    pub lists_one : (t : ℕ) → t ≤ 3 → ListsRing (recorded m l) t old (listing_numbers r) x → (r ≡ L.Listed 1) × (x ≡ m ∷ drop 1 old)
+    pub lists_one : (t : ℕ) → t ≤ 3 → ListsRing (recorded m l) t old (listing_numbers r) x → (r ≡ Ok 1) × (x ≡ m ∷ drop 1 old)
     lists_one t small =
         lists_recorded l (recorded m l) m 0 t line start (recorded_long m l) (distance_self (recorded m l)) (omega arith) (omega arith)
         (recorded_characters m l (line_characters l line)) old room r x
 
     -- seven at radius 4
-    pub lists_seven : ListsRing (recorded m l) 4 old (listing_numbers r) x → (r ≡ L.Listed 7) × (x ≡ recorded_starts m 4 ++ drop 7 old)
+    pub lists_seven : ListsRing (recorded m l) 4 old (listing_numbers r) x → (r ≡ Ok 7) × (x ≡ recorded_starts m 4 ++ drop 7 old)
     unfolding false_starts
     lists_seven = lists_undamaged 4 (omega arith) old room r x
 
     -- thirteen at radius 5
-    pub lists_thirteen : ListsRing (recorded m l) 5 old (listing_numbers r) x → (r ≡ L.Listed 13) × (x ≡ recorded_starts m 5 ++ drop 13 old)
+    pub lists_thirteen : ListsRing (recorded m l) 5 old (listing_numbers r) x → (r ≡ Ok 13) × (x ≡ recorded_starts m 5 ++ drop 13 old)
     unfolding false_starts
     lists_thirteen = lists_undamaged 5 (omega arith) old room r x
 
@@ -321,18 +320,18 @@ module _ (l ring : List ℕ) (m e t : ℕ) (line : Line l) (start : m < 126) (lo
   backward_alone backward =
       alone-from 63 backward (omega arith) (omega arith) (λ k least most. let s = seen_backward m k backward least in omega arith)
 
-  module _ (characters : Characters ring) (old : List ℕ) (room : length old ≡ 126) (r : RingListing) (x : List ℕ) (lists : ListsRing ring t old (listing_numbers r) x) where
+  module _ (characters : Characters ring) (old : List ℕ) (room : length old ≡ 126) (r : Result ℕ Refusal) (x : List ℕ) (lists : ListsRing ring t old (listing_numbers r) x) where
     -- so every result of listing has the forward start m first, and then only starts from 63 on
-    pub lists_forward : m < 63 → (others : List ℕ) × Those (Start t ring) 63 63 others × (r ≡ L.Listed (suc (length others)))
+    pub lists_forward : m < 63 → (others : List ℕ) × Those (Start t ring) 63 63 others × (r ≡ Ok (suc (length others)))
         × (x ≡ m ∷ (others ++ drop (suc (length others)) old))
     lists_forward forward =
         let (starts, these, count, output) = listing_lists ring t long characters (omega arith) old room r x lists in
         let p = parts 63 63 refl these in
         let e : starts ≡ m ∷ p.rest = p.is ∙ ap (λ (first : List ℕ). first ++ p.rest) (one_those p.in_first (forward_alone forward)) in
-        (p.rest, p.in_rest, count ∙ ap (λ (l : List ℕ). L.Listed (length l)) e, output ∙ ap (λ (l : List ℕ). l ++ drop (length l) old) e)
+        (p.rest, p.in_rest, count ∙ ap (λ (l : List ℕ). Ok (length l)) e, output ∙ ap (λ (l : List ℕ). l ++ drop (length l) old) e)
 
     -- and the backward start m last, after only starts to 62
-    pub lists_backward : 63 ≤ m → (others : List ℕ) × Those (Start t ring) 63 0 others × (r ≡ L.Listed (suc (length others)))
+    pub lists_backward : 63 ≤ m → (others : List ℕ) × Those (Start t ring) 63 0 others × (r ≡ Ok (suc (length others)))
         × (x ≡ others ++ (m ∷ drop (suc (length others)) old))
     lists_backward backward =
         let (starts, these, count, output) = listing_lists ring t long characters (omega arith) old room r x lists in
@@ -341,7 +340,7 @@ module _ (l ring : List ℕ) (m e t : ℕ) (line : Line l) (start : m < 126) (lo
         let n : length starts ≡ suc (length p.first) = ap length e ∙ length-append p.first (m ∷ []) ∙ omega arith in (
           p.first,
           p.in_first,
-          count ∙ ap L.Listed n,
+          count ∙ ap Ok n,
           output ∙ ap₂ (λ (l : List ℕ) (n : ℕ). l ++ drop n old) e n ∙ append_assoc p.first (m ∷ []) (drop (suc (length p.first)) old),
         )
 

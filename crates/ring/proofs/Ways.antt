@@ -1,19 +1,20 @@
 -- The ways out of listing and of reading a ring, a test at a time, in the paper's order.
 use mathlib.Core.Path.{◌≡◌, refl, sym, ap, ap₂, ◌∙◌, subst}
-use mathlib.Core.Bool.{Bool, true, false}
 use mathlib.Core.List.{List, [], ◌∷◌, ◌++◌}
 use Prim.Native.Nat.{ℕ, min, ◌+◌, ◌*◌, ◌%◌, ◌<◌, ◌≤◌}
 use native.Mathlib.Nat.{mod-eq_of_lt}
 use native.Mathlib.Omega.{arith}
 use lib.ListN.{length, get_or, drop}
+use Rattle.std.specs.Prelude.{Option, Some, None, IsSome}
 use Rattle.numbers.proofs.Cases.{pos_of_not_zero}
 use Rattle.refusal.specs.Promise.{Test}
 use Rattle.refusal.proofs.Ladder.{Yes, No, Met, FailsAt, answer_at, refuses, succeeds}
 use Rattle.code.specs.Word.{Characters, Line, number, distance}
 use Rattle.code.proofs.Lines.{line_characters}
 use Rattle.mender.specs.declared.Mended.{Mended}
-use Rattle.mender.specs.Mender.{Nearest}
+use Rattle.mender.specs.Mender.{Near}
 use Rattle.line.specs.Promises.{Within, told}
+use Rattle.line.specs.Inside.{NearestLine}
 use Rattle.ring.specs.Ring.{placed, Start, ListOf}
 use Rattle.ring.specs.Promises.{listing_tests, Lists, ListsRing, ListHas, reading_tests, ReadsAt, ReadsRing}
 use Rattle.ring.specs.Inside.{Listable}
@@ -35,8 +36,8 @@ module _ (ring : List ℕ) (t : ℕ) (old : List ℕ) where
   list_written = succeeds (Lists ring t old) 1 old list-tests
 
 -- after the tests the loop over the starts may begin
-pub listable : (ring : List ℕ) (t room : ℕ) → length ring ≡ 63 → Yes (Characters ring) → t ≤ 5 → room ≡ 126 → Listable ring t room
-listable ring t room long range small wide = record { long = long; characters = range.is; small = small; wide = wide }
+pub listable : (ring : List ℕ) (t : ℕ) → length ring ≡ 63 → Yes (Characters ring) → t ≤ 5 → Listable ring t
+listable ring t long range small = record { long = long; characters = range.is; small = small }
 
 -- ---- the list by its count
 
@@ -76,9 +77,6 @@ module _ (ring : List ℕ) (t : ℕ) (before : List ℕ) (n : ℕ) (out : List �
           (first_alone lists.starts (drop (length lists.starts) before) (sym count_is ∙ one) ∙ ap (λ (l : List ℕ). get_or l 0 0 ∷ []) (sym lists.output))
           lists.these
 
-      pub start_inside : get_or out 0 0 < 126
-      start_inside = (those_entry list-one 0 (omega arith)).most
-
 -- ---- reading
 
 module _ (ring : List ℕ) (t : ℕ) (old : List ℕ) where
@@ -96,41 +94,41 @@ module _ (ring : List ℕ) (t : ℕ) (old : List ℕ) where
 -- ---- the line at the one start
 
 module _ (ring : List ℕ) (t : ℕ) (characters : Yes (Characters ring)) (small : t ≤ 5) (before : List ℕ) (n : ℕ) (out : List ℕ) (lists : Lists ring t before (n ∷ []) out)
-    (some : n ≡ 0 → ⊥) (few : n ≤ 1) (word : List ℕ) (m : Mended) (is : word ≡ placed (get_or out 0 0) ring) (nearest : Nearest Line word (min t 5) m) where
-  -- the one start is listed, so a line was found there
-  found_here : m.found ≡ true
-  found_here = by m.found refl
-    where
-      by : (b : Bool) → m.found ≡ b → b ≡ true
-      by true e = refl
-      by false e =
-          let s : Start t ring (get_or out 0 0) = (those_entry (list-one ring t before n out lists some few) 0 (omega arith)).has in
-          let h : distance (placed (get_or out 0 0) ring) s.0 ≤ t = s.1.near in
-          absurd (nearest.none e
-          (record {
-            long = ap length is ∙ (kept (get_or out 0 0)).long ring;
-            characters = subst Characters (sym is) ((kept (get_or out 0 0)).characters ring characters.is);
-          })
-          s.0 s.1.line (let e = ap (λ (w : List ℕ). distance w s.0) is in omega arith))
-
-  within-here : Within t (placed (get_or out 0 0) ring) m.word
-  within-here =
-      let d : m.weight ≡ distance (placed (get_or out 0 0) ring) m.word = nearest.apart found_here ∙ ap (λ (w : List ℕ). distance w m.word) is in
-      let g = nearest.within found_here in
-      record { line = nearest.is found_here; near = omega arith }
-
-  pub the_line : (v : ℕ) → v ≡ get_or m.word 50 0 % 64 * 64 + get_or m.word 51 0 % 64 → (new : List ℕ) → new ≡ m.word
-      → ReadsAt ring t (get_or out 0 0 ∷ v ∷ m.weight ∷ m.first ∷ m.last ∷ []) new
-  the_line v e new output =
-      let c = line_characters m.word (nearest.is found_here) in
-      subst (ReadsAt ring t (get_or out 0 0 ∷ v ∷ m.weight ∷ m.first ∷ m.last ∷ [])) (sym output)
+    (some : n ≡ 0 → ⊥) (few : n ≤ 1) (word : List ℕ) (is : word ≡ placed (get_or out 0 0) ring) where
+  -- the one start is listed, so a line is found there
+  pub found_here : (m : Option Mended) → NearestLine word t m → IsSome m
+  found_here (Some m) near = refl
+  found_here None far =
+      let s : Start t ring (get_or out 0 0) = (those_entry (list-one ring t before n out lists some few) 0 (omega arith)).has in
+      let h : distance (placed (get_or out 0 0) ring) s.0 ≤ t = s.1.near in
+      absurd (far.none
       (record {
-        start = get_or out 0 0;
-        only = list-one ring t before n out lists some few;
-        within = within-here;
-        shows = ap₂ (λ (x y : ℕ). get_or out 0 0 ∷ x ∷ y ∷ m.first ∷ m.last ∷ [])
-            (e ∙ ap₂ (λ (x y : ℕ). x * 64 + y) (mod-eq_of_lt (c 50)) (mod-eq_of_lt (c 51))) (nearest.apart found_here)
-            ∙ ap₂ (λ (x y : ℕ). get_or out 0 0 ∷ number m.word ∷ distance word m.word ∷ x ∷ y ∷ []) (nearest.ends found_here).from
-            (nearest.ends found_here).to
-            ∙ ap (λ (w : List ℕ). get_or out 0 0 ∷ told w m.word) is;
+        long = ap length is ∙ (kept (get_or out 0 0)).long ring;
+        characters = subst Characters (sym is) ((kept (get_or out 0 0)).characters ring characters.is);
       })
+      s.0 s.1.line (let e = ap (λ (w : List ℕ). distance w s.0) is in omega arith))
+
+  module _ (found : Option Mended) (m : Mended) (taken : found ≡ Some m) (nearest : NearestLine word t found) where
+    near-here : Near Line word (min t 5) m
+    near-here = rw taken at nearest
+
+    within-here : Within t (placed (get_or out 0 0) ring) m.word
+    within-here =
+        let d : m.weight ≡ distance (placed (get_or out 0 0) ring) m.word = near-here.apart ∙ ap (λ (w : List ℕ). distance w m.word) is in
+        let g = near-here.within in
+        record { line = near-here.is; near = omega arith }
+
+    pub the_line : (v : ℕ) → v ≡ get_or m.word 50 0 % 64 * 64 + get_or m.word 51 0 % 64 → (new : List ℕ) → new ≡ m.word
+        → ReadsAt ring t (get_or out 0 0 ∷ v ∷ m.weight ∷ m.first ∷ m.last ∷ []) new
+    the_line v e new output =
+        let c = line_characters m.word near-here.is in
+        subst (ReadsAt ring t (get_or out 0 0 ∷ v ∷ m.weight ∷ m.first ∷ m.last ∷ [])) (sym output)
+        (record {
+          start = get_or out 0 0;
+          only = list-one ring t before n out lists some few;
+          within = within-here;
+          shows = ap₂ (λ (x y : ℕ). get_or out 0 0 ∷ x ∷ y ∷ m.first ∷ m.last ∷ [])
+              (e ∙ ap₂ (λ (x y : ℕ). x * 64 + y) (mod-eq_of_lt (c 50)) (mod-eq_of_lt (c 51))) near-here.apart
+              ∙ ap₂ (λ (x y : ℕ). get_or out 0 0 ∷ number m.word ∷ distance word m.word ∷ x ∷ y ∷ []) near-here.ends.from near-here.ends.to
+              ∙ ap (λ (w : List ℕ). get_or out 0 0 ∷ told w m.word) is;
+        })

@@ -1,5 +1,5 @@
 -- What the inner functions of rings promise each other: the marks at a start, their power sums, whether errors have given sums, the ring place of an address, the starts with a property listed, and what the marks of a start add to a pattern of errors.
-use Rattle.std.specs.Prelude.{◌≡◌, cond, List, [], ◌∷◌, ◌++◌, ℕ, min, ◌+◌, ◌-◌, ◌%◌, ◌<◌, ◌≤◌, eqb, ltb, length, get_or, drop}
+use Rattle.std.specs.Prelude.{◌≡◌, Bool, true, false, cond, List, [], ◌∷◌, ◌++◌, ℕ, zero, suc, min, ◌+◌, ◌-◌, ◌%◌, ◌<◌, ◌≤◌, eqb, ltb, length, get_or, drop}
 use Rattle.code.specs.Word.{Characters, power_sum, added, marks, listed}
 use Rattle.code.specs.Inside.{PowerSums}
 use Rattle.mender.specs.Mender.{Fits}
@@ -18,12 +18,11 @@ marks_at k = placed (seen k 0) marks
 abbrev pub MarkSums : ℕ → List ℕ → Type 0
 MarkSums k sums = PowerSums (marks_at k) sums
 
--- what the loop over the starts asks for: a ring of 63 characters, a radius of at most 5, and room for 126 starts
-pub record Listable (ring : List ℕ) (t room : ℕ) : Type 0 where
+-- what the loop over the starts asks for: a ring of 63 characters, and a radius of at most 5
+pub record Listable (ring : List ℕ) (t : ℕ) : Type 0 where
   pub long : length ring ≡ 63
   pub characters : Characters ring
   pub small : t ≤ 5
-  pub wide : room ≡ 126
 
 -- at most t errors, t counting up to 5, have these eleven power sums
 abbrev pub ErrorsFit : List ℕ → ℕ → Type 0
@@ -36,6 +35,19 @@ mark_sums k = listed (λ i. power_sum (58 + i) (marks_at k)) 0 11
 -- at most t errors have these sums, to which those of the marks at start k are added
 abbrev pub ErrorsFitAt : List ℕ → ℕ → ℕ → Type 0
 ErrorsFitAt sums t k = ErrorsFit (added sums (mark_sums k)) t
+
+-- of the n numbers k, k + 1, .. those at which a test answered true, in rising order; at each other it answered false
+pub data Tested (T : ℕ → Bool → Type 0) : ℕ → ℕ → List ℕ → Type 0 where
+  tested_end : {k : ℕ} → Tested T zero k []
+  tested_true : {n k : ℕ} {ks : List ℕ} → T k true → Tested T n (suc k) ks → Tested T (suc n) k (k ∷ ks)
+  tested_false : {n k : ℕ} {ks : List ℕ} → T k false → Tested T n (suc k) ks → Tested T (suc n) k ks
+
+-- those of the 126 starts at which a test answered true, listed in an output as below
+pub record ListsWhere (T : ℕ → Bool → Type 0) (old fields new : List ℕ) : Type 0 where
+  pub starts : List ℕ
+  pub these : Tested T 126 0 starts
+  pub count : fields ≡ length starts ∷ []
+  pub output : new ≡ starts ++ drop (length starts) old
 
 -- those of the 126 starts that have a property: they stand first in the output, the rest of it is as it was, and the field is their count
 pub record ListsThose (P : ℕ → Type 0) (old fields new : List ℕ) : Type 0 where
@@ -65,9 +77,9 @@ pub record AllGains (e r : List ℕ) : Type 0 where
   pub long : length r ≡ 126
   pub at : (k : ℕ) → k < 126 → get_or r k 0 ≡ gains k e
 
--- w errors e, with the marks of start k added, are at most t
-abbrev pub LightAt : List ℕ → ℕ → ℕ → ℕ → Type 0
-LightAt e w t k = w + gains k e ≤ t + 3
+-- the marks of start k, added to the errors e, add at most n to their count, and 3
+abbrev pub LightBy : List ℕ → ℕ → ℕ → Type 0
+LightBy e n k = gains k e ≤ n
 
 -- errors twice round the ring: no place of a mark, counted on from its start or back, lies outside
 pub record Twice (e r : List ℕ) : Type 0 where

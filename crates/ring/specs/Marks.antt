@@ -3,7 +3,6 @@ use Rattle.std.specs.Prelude.{◌≡◌, List, ℕ, ◌+◌, ◌<◌, get_or}
 use Rattle.regular.specs.Pivots.{element_in}
 use Rattle.code.specs.Word.{power_sum}
 use Rattle.sums.specs.Held.{eleven}
-use Rattle.ring.specs.declared.marks.AllMarks.{AllMarks}
 use Rattle.ring.specs.Inside.{marks_at, MarkSums}
 
 -- words 6 k to 6 k + 5 hold sum k of the marks at the 63 starts from the first on
@@ -11,8 +10,8 @@ pub record MarksIn (first : ℕ) (words : List ℕ) : Type 0 where
   pub at : (l k : ℕ) → l < 63 → k < 11 → element_in words k l ≡ power_sum (58 + k) (marks_at (first + l))
 
 -- the power sums of the marks at a start, and that they are so at all starts
-abbrev pub marks_of : AllMarks → ℕ → List ℕ
-marks_of m k = eleven (record { first = get_or m.firsts k 0; last = get_or m.lasts k 0 })
+abbrev pub marks_of : List (ℕ × ℕ) → ℕ → List ℕ
+marks_of m k = eleven (record { first = (get_or m k (0, 0)).0; last = (get_or m k (0, 0)).1 })
 
-pub record MarksAtAll (m : AllMarks) : Type 0 where
+pub record MarksAtAll (m : List (ℕ × ℕ)) : Type 0 where
   pub at : (k : ℕ) → k < 126 → MarkSums k (marks_of m k)

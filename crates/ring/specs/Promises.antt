@@ -1,25 +1,27 @@
 -- What listing and reading a ring promise: the numbers of each answer, the tests in the paper's order, and what a success gives.
-use Rattle.std.specs.Prelude.{◌≡◌, List, [], ◌∷◌, ◌++◌, ℕ, ◌≤◌, length, drop}
+use Rattle.std.specs.Prelude.{◌≡◌, List, [], ◌∷◌, ◌++◌, ℕ, ◌≤◌, length, drop, Result, Ok, Err}
+use Rattle.refusal.specs.declared.Refusal.{Refusal}
 use Rattle.refusal.specs.declared.Refusal.TheVariants.{InputLength, OutputLength, ValueOver, RadiusOver, NoLine, ManyStarts}
 use Rattle.refusal.specs.Number.{number_of}
 use Rattle.refusal.specs.Promise.{Test, ◌else◌, Promise}
 use Rattle.code.specs.Word.{Characters}
 use Rattle.line.specs.Promises.{Within, told}
-use Rattle.ring.specs.declared.RingListing.{RingListing}
-use Rattle.ring.specs.declared.RingListing.TheVariants as L
 use Rattle.ring.specs.declared.RingReading.{RingReading}
-use Rattle.ring.specs.declared.RingReading.TheVariants as R
 use Rattle.ring.specs.Ring.{placed, ListOf}
 
 -- the numbers of a listing: the answer, and how many starts are listed
-abbrev pub listing_numbers : RingListing → List ℕ
-listing_numbers (L.Listed count) = 0 ∷ count ∷ []
-listing_numbers (L.Refused r) = number_of r ∷ 0 ∷ []
+abbrev pub listing_numbers : Result ℕ Refusal → List ℕ
+listing_numbers (Ok count) = 0 ∷ count ∷ []
+listing_numbers (Err r) = number_of r ∷ 0 ∷ []
 
 -- the numbers of a reading: the answer, the start, the line's number, its distance from the word there, and the first and the last changed address
-abbrev pub reading_numbers : RingReading → List ℕ
-reading_numbers (R.Line start n d first last) = 0 ∷ start ∷ n ∷ d ∷ first ∷ last ∷ []
-reading_numbers (R.Refused r) = number_of r ∷ 0 ∷ 0 ∷ 0 ∷ 0 ∷ 0 ∷ []
+abbrev pub reading_numbers : Result RingReading Refusal → List ℕ
+reading_numbers (Ok r) = 0 ∷ r.start ∷ r.number ∷ r.distance ∷ r.first ∷ r.last ∷ []
+reading_numbers (Err r) = number_of r ∷ 0 ∷ 0 ∷ 0 ∷ 0 ∷ 0 ∷ []
+
+-- the answer with a reading's five numbers
+abbrev pub line_read : ℕ → ℕ → ℕ → ℕ → ℕ → Result RingReading Refusal
+line_read start n d first last = Ok (record { start = start; number = n; distance = d; first = first; last = last })
 
 -- listing asks for a ring of 63 characters, an output of 126 bytes and a radius of at most 5
 abbrev pub listing_tests : List ℕ → ℕ → ℕ → List Test

@@ -15,12 +15,10 @@ pub fn all_gains(errors: &[u8; 63]) -> [u8; 126]
 {
     let round = twice(errors);
     let mut gains = [0u8; 126];
-    let mut turn: usize = 0;
-    while turn < 63 {
+    for turn in 0..63 {
         gains[turn] = three_gains(round[turn + OF_32], round[turn + OF_8], round[turn + OF_1]);
         let back = turn + 63;
         gains[back] = three_gains(round[back - OF_32], round[back - OF_8], round[back - OF_1]);
-        turn += 1;
     }
     gains
 }
@@ -30,11 +28,10 @@ fn twice(errors: &[u8; 63]) -> [u8; 126]
     ensures { Twice errors.now result }
 {
     let mut round = [0u8; 126];
-    let mut place: usize = 0;
-    while place < 63 {
-        round[place] = errors[place];
-        round[place + 63] = errors[place];
-        place += 1;
+    // no copy_from_slice: it is a call, and slower
+    for (place, error) in errors.iter().enumerate() {
+        round[place] = *error;
+        round[place + 63] = *error;
     }
     round
 }

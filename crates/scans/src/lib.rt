@@ -3,44 +3,42 @@
 
 ghost use Rattle.std.specs.Prelude.{◌≡◌};
 ghost use Rattle.scans.specs.Promises.{choice_numbers, Chooses, Better};
-ghost use Rattle.scans.specs.Scans.{Answers, beside_of, instead_of, choice_of};
+ghost use Rattle.scans.specs.Scans.{Answers, choice_of};
 
-use line::{LineReading, Wanted};
+use line::Reading;
 use refusal::Refusal;
 
-// Which of two scans is kept, or the refusal of the first where both are refused.
+// Which of two scans is kept.
 #[derive(Clone, Copy)]
 pub enum Choice {
     First,
     Second,
-    Neither(Refusal),
 }
 
 // Chooses the scan whose reading, with no wanted number, succeeds with the smaller distance, the first where they tie; the other where one is refused.
-pub fn choose_scan(first: &[u8], second: &[u8], radius: u8) -> Choice
+// Where both are refused the refusal is the first's.
+pub fn choose_scan(first: &[u8], second: &[u8], radius: u8) -> Result<Choice, Refusal>
     ensures { Chooses first.now second.now radius (choice_numbers result) }
 {
-    let one = scanned(first, radius);
-    let other = scanned(second, radius);
-    chosen(one, other)
+    chosen(scanned(first, radius), scanned(second, radius))
 }
 
 // Hands back the caller's own bytes of the scan that is chosen, or an empty part of the first. The answer is 0, or the first's refusal where both are
 // refused.
+// The answer is lent, and no Result: 02 asks for an empty part of the first in a refusal, and an Err would hand none back.
 pub fn better_scan<'a>(first: &'a [u8], second: &'a [u8], radius: u8, answer: &mut u8) -> &'a [u8]
     ensures { Better first.entry second.entry radius result answer.new }
 {
-    let choice = choose_scan(first, second, radius);
-    match choice {
-        Choice::First => {
+    match choose_scan(first, second, radius) {
+        Ok(Choice::First) => {
             *answer = 0;
             first
         }
-        Choice::Second => {
+        Ok(Choice::Second) => {
             *answer = 0;
             second
         }
-        Choice::Neither(why) => {
+        Err(why) => {
             *answer = refusal::number(why);
             &first[0..0]
         }
@@ -48,47 +46,21 @@ pub fn better_scan<'a>(first: &'a [u8], second: &'a [u8], radius: u8, answer: &m
 }
 
 // Reads a scan for its answer alone.
-fn scanned(scan: &[u8], radius: u8) -> LineReading
+fn scanned(scan: &[u8], radius: u8) -> Result<Reading, Refusal>
     ensures { Answers scan.now radius result }
 {
     let mut output = [0u8; 63];
-    line::read_line(scan, radius, Wanted::Any, &mut output)
+    line::read_line(scan, radius, None, &mut output)
 }
 
 // The choice by the two answers.
-fn chosen(one: LineReading, other: LineReading) -> Choice
+fn chosen(one: Result<Reading, Refusal>, other: Result<Reading, Refusal>) -> Result<Choice, Refusal>
     ensures { result ≡ choice_of one other }
 {
-    match one {
-        LineReading::Line { distance, .. } => beside(distance, other),
-        LineReading::Refused(why) => instead(why, other),
-    }
-}
-
-// The choice where the first was read at a distance.
-fn beside(distance: u8, other: LineReading) -> Choice
-    ensures { result ≡ beside_of distance other }
-{
-    match other {
-        LineReading::Line {
-            distance: others,
-            ..
-        } => {
-            if others < distance {
-                return Choice::Second;
-            }
-            Choice::First
-        }
-        LineReading::Refused(_) => Choice::First,
-    }
-}
-
-// The choice where the first was refused.
-fn instead(why: Refusal, other: LineReading) -> Choice
-    ensures { result ≡ instead_of why other }
-{
-    match other {
-        LineReading::Line { .. } => Choice::Second,
-        LineReading::Refused(_) => Choice::Neither(why),
+    match (one, other) {
+        (Ok(one), Ok(other)) if other.distance < one.distance => Ok(Choice::Second),
+        (Ok(_), _) => Ok(Choice::First),
+        (Err(_), Ok(_)) => Ok(Choice::Second),
+        (Err(why), Err(_)) => Err(why),
     }
 }

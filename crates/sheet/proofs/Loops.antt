@@ -1,13 +1,13 @@
 -- A sheet taken and written whole, the marks of a line added, and the turns of the loops: all marks added, a column taken out, and one written.
-use mathlib.Core.Path.{◌≡◌, refl, sym, ap, ap₂, ◌∙◌, subst}
+use mathlib.Core.Path.{◌≡◌, refl, sym, ap, ◌∙◌, subst}
 use mathlib.Core.Logic.{⊎_elim}
-use mathlib.Core.List.{List, ◌++◌, append-nil}
+use mathlib.Core.List.{List, ◌++◌}
 use Prim.Native.Nat.{ℕ, ◌+◌, ◌-◌, ◌*◌, ◌<◌, ◌≤◌}
 use native.Mathlib.Omega.{arith}
-use borrow.Author.Count.{below_none, below_more}
+use borrow.Author.Count.{below_more}
 use lib.Bits.{bit_xor}
 use lib.ListN.{length, get_or, set, take, drop, replicate, length-set}
-use lib.Seq.{get_or-set_same, get_or-set_other, take_all, drop-length}
+use lib.Seq.{get_or-set_same, get_or-set_other}
 use Rattle.numbers.proofs.Cases.{same_or_not}
 use Rattle.numbers.proofs.Parts.{replaced, replaced_long, part_same, part_before, part_after, same_parts}
 use Rattle.field.specs.Field.{sum}
@@ -21,22 +21,14 @@ use Rattle.sheet.proofs.Entries.{line_long, bare_long, bare_line, plain_long, pl
 
 -- ---- a sheet whole
 
--- bytes copied over as many
-copied_whole : (s old new : List ℕ) → length s ≡ characters → length old ≡ characters → new ≡ take (length s) s ++ drop (length s) old → new ≡ s
-copied_whole s old new long room copied =
-    copied
-    ∙ ap₂ (λ (x y : List ℕ). x ++ y) (take_all (length s) s (omega arith)) (ap (λ (k : ℕ). drop k old) (long ∙ sym room) ∙ drop-length old)
-    ∙ append-nil s
-
-pub taken_whole : (given zeros s : List ℕ) → length given ≡ characters → length zeros ≡ characters
-    → s ≡ take (length given) given ++ drop (length given) zeros → Taken given s
-taken_whole given zeros s long room copied = record { is = λ _. copied_whole given zeros s long room copied; none = λ d. absurd (d long) }
+pub taken_whole : (given s : List ℕ) → length given ≡ characters → s ≡ given → Taken given s
+taken_whole given s long copied = record { is = λ _. copied; none = λ d. absurd (d long) }
 
 pub taken_none : (given : List ℕ) → (length given ≡ characters → ⊥) → Taken given (replicate characters 0)
 taken_none given d = record { is = λ l. absurd (d l); none = λ _. refl }
 
-pub put_whole : (s old new : List ℕ) → length s ≡ characters → length old ≡ characters → new ≡ take (length s) s ++ drop (length s) old → Put s old new
-put_whole s old new long room copied = record { over = λ _. copied_whole s old new long room copied; beside = λ d. absurd (d room) }
+pub put_whole : (s old new : List ℕ) → length old ≡ characters → new ≡ s → Put s old new
+put_whole s old new room copied = record { over = λ _. copied; beside = λ d. absurd (d room) }
 
 pub put_none : (s old : List ℕ) → (length old ≡ characters → ⊥) → Put s old old
 put_none s old d = record { over = λ l. absurd (d l); beside = λ _. refl }

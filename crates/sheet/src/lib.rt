@@ -18,7 +18,7 @@ pub fn taken(given: &[u8]) -> [u8; SHEET]
     if given.len() != SHEET {
         return s;
     }
-    copying::copy(given, &mut s);
+    s.copy_from_slice(given);
     s
 }
 
@@ -29,7 +29,7 @@ pub fn put(s: [u8; SHEET], output: &mut [u8])
     if output.len() != SHEET {
         return;
     }
-    copying::copy(&s, output);
+    output.copy_from_slice(&s);
 }
 
 // Adds the marks to a line: off where they were on, and on where they were off. To anything else nothing is added.
@@ -39,21 +39,20 @@ pub fn add_marks(line: &mut [u8])
     if line.len() != SIDE {
         return;
     }
-    line[52] = line[52] ^ 32;
-    line[55] = line[55] ^ 8;
-    line[62] = line[62] ^ 1;
+    line[52] ^= 32;
+    line[55] ^= 8;
+    line[62] ^= 1;
 }
 
 // A sheet with the marks added to each line.
 pub fn marks_added(mut s: [u8; SHEET]) -> [u8; SHEET]
     ensures { result ≡ bare s }
 {
-    let mut i: usize = 0;
-    while i < SIDE {
+    // Not chunks_exact_mut: of a slice that it lent a proof knows the length alone.
+    for i in 0..SIDE {
         let start = i * SIDE;
         let end = start + SIDE;
         add_marks(&mut s[start..end]);
-        i += 1;
     }
     s
 }
@@ -63,10 +62,8 @@ pub fn column_of(s: &[u8], a: u8) -> [u8; SIDE]
     ensures { result ≡ plain_column a s.now }
 {
     let mut column = [0u8; SIDE];
-    let mut i: usize = 0;
-    while i < SIDE {
-        column[i] = eights::byte_at(s, i * SIDE + a as usize);
-        i += 1;
+    for (i, c) in column.iter_mut().enumerate() {
+        *c = eights::byte_at(s, i * SIDE + usize::from(a));
     }
     column
 }
@@ -78,12 +75,10 @@ pub fn put_column(column: [u8; SIDE], a: u8, s: &mut [u8])
     if s.len() != SHEET {
         return;
     }
-    if a as usize >= SIDE {
+    if usize::from(a) >= SIDE {
         return;
     }
-    let mut i: usize = 0;
-    while i < SIDE {
-        s[i * SIDE + a as usize] = column[i];
-        i += 1;
+    for (i, c) in column.iter().enumerate() {
+        s[i * SIDE + usize::from(a)] = *c;
     }
 }

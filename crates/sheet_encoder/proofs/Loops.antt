@@ -1,20 +1,25 @@
--- The turns of the loops of encoding a sheet: numbers passed, lines written, columns completed; and how one column is.
-use mathlib.Core.Path.{◌≡◌, refl, sym, ap, ap₂, ◌∙◌, subst}
-use mathlib.Core.Bool.{true, false}
+-- The numbers told, and the turns of the loops of encoding a sheet: lines written, columns completed; and how one column is.
+use mathlib.Core.Path.{◌≡◌, refl, sym, ap, ◌∙◌, subst}
+use mathlib.Core.Bool.{Bool}
 use mathlib.Core.Logic.{⊎_elim}
 use mathlib.Core.List.{List, [], ◌∷◌, ◌++◌}
-use Prim.Native.Nat.{ℕ, zero, suc, ◌+◌, ◌-◌, ◌*◌, ◌<◌, ◌≤◌}
+use Prim.Native.Nat.{ℕ, zero, suc, ◌+◌, ◌-◌, ◌*◌, ◌/◌, ◌<◌, ◌≤◌}
 use native.Mathlib.Nat.{le_of_eq}
 use native.Mathlib.Omega.{arith}
-use borrow.Author.Count.{below_none, below_more}
+use borrow.Author.Count.{below_more}
 use lib.ListN.{length, get_or, take, drop, replicate, get_or-eq_default}
-use lib.Seq.{get_or-take, get_or-drop, take-length, take_at, length-take-le}
+use lib.Seq.{drop-drop, get_or-take, get_or-drop, take_at, length-take-le}
+use Rattle.std.specs.List.{AllPass, list_all}
+use Rattle.std.specs.Simd.{first_chunks}
+use Rattle.std.proofs.Common.{leb}
+use Rattle.std.proofs.lemmas.Bool.{leb-true, le-leb, false≢true}
+use Rattle.std.proofs.lemmas.List.Sums.{AllPass-from_list_all, list_all-from_AllPass}
 use Rattle.numbers.specs.Below.{AllBelow}
 use Rattle.numbers.specs.Parts.{part}
 use Rattle.numbers.proofs.Cases.{le_or_lt}
 use Rattle.numbers.proofs.Parts.{part_long, replaced, replaced_long, part_same, part_before, part_after}
 use Rattle.refusal.specs.Promise.{Tells}
-use Rattle.refusal.proofs.Laws.{tells_yes, tells_no, one_answer}
+use Rattle.refusal.proofs.Laws.{one_answer}
 use Rattle.refusal.proofs.Ladder.{met_answer, given, ◌then◌}
 use Rattle.code.specs.Word.{Characters, Clean, Line, added, marks}
 use Rattle.code.proofs.Words.{characters_below, zero_get, take_added, added_none}
@@ -30,27 +35,24 @@ use Rattle.sheet.specs.Inside.{MarksAdded, plain_column, ColumnPut}
 use Rattle.sheet.proofs.Entries.{line_long, line_characters, characters_of_lines, plain_long, plain_get}
 use Rattle.sheet_encoder.specs.Inside.{Encodable, FirstLines, Completes, AllComplete}
 
--- ---- numbers passed
+-- ---- the numbers
 
-pub record PossibleTo (numbers : List ℕ) (i : ℕ) : Type 0 where
-  pub most : i ≤ length numbers
-  pub passed : (k : ℕ) → k < i → get_or numbers k 0 < 4096
+below_get : (w : List ℕ) → AllPass (λ n. leb n 4095) w → (k : ℕ) → get_or w k 0 < 4096
+below_get w h k =
+    ⊎_elim (λ (b : length w ≤ k). let e : get_or w k 0 ≡ 0 = get_or-eq_default w 0 b in omega arith)
+    (λ (b : k < length w). let l = leb-true (get_or w k 0) 4095 (h k 0 b) in omega arith) (le_or_lt (length w) k)
 
-pub possible_none : (numbers : List ℕ) → PossibleTo numbers 0
-possible_none numbers = record { most = omega arith; passed = below_none (λ k. get_or numbers k 0 < 4096) }
+below_pass : (w : List ℕ) → AllBelow 4096 w → AllPass (λ n. leb n 4095) w
+below_pass [] h k d l = absurd (omega arith)
+below_pass (n ∷ w) h zero d l = le-leb n 4095 (let m = h 0 in omega arith)
+below_pass (n ∷ w) h (suc k) d l = below_pass w (λ i. h (suc i)) k d (omega arith)
 
-pub possible_again : (numbers : List ℕ) (i : ℕ) → PossibleTo numbers i → i < length numbers → get_or numbers i 0 ≤ 4095 → PossibleTo numbers (i + 1)
-possible_again numbers i p h l = record { most = omega arith; passed = below_more (λ k. get_or numbers k 0 < 4096) i p.passed (omega arith) }
-
-pub possible_all : (numbers : List ℕ) (i : ℕ) → PossibleTo numbers i → length numbers ≤ i → Tells (AllBelow 4096 numbers) true
-possible_all numbers i p h =
-    tells_yes
-    (λ k.
-    ⊎_elim (λ (b : i ≤ k). let e : get_or numbers k 0 ≡ 0 = get_or-eq_default numbers 0 (omega arith) in omega arith) (λ (b : k < i). p.passed k b)
-    (le_or_lt i k))
-
-pub possible_not : (numbers : List ℕ) (i : ℕ) → 4095 < get_or numbers i 0 → Tells (AllBelow 4096 numbers) false
-possible_not numbers i h = tells_no (λ p. let l = p i in omega arith)
+pub tells_possible : (w : List ℕ) (b : Bool) → b ≡ list_all (λ n. leb n 4095) w → Tells (AllBelow 4096 w) b
+tells_possible w b e =
+    record {
+      holds = λ q. below_get w (AllPass-from_list_all (λ n. leb n 4095) w (sym e ∙ q));
+      fails = λ q h. false≢true (sym q ∙ e ∙ list_all-from_AllPass (λ n. leb n 4095) w (below_pass w h));
+    }
 
 -- ---- a line encoded
 
@@ -94,16 +96,13 @@ lines_none texts numbers s given e =
     low : Characters s
     low a = let z : get_or s a 0 ≡ 0 = ap (λ (w : List ℕ). get_or w a 0) e ∙ zero_get 3969 a in omega arith
 
-pub lines_again : (texts numbers s : List ℕ) (i : ℕ) (known last : List ℕ) → LinesTo texts numbers s i → i < 52
-    → InformationOf (take (i * 50 + 50 - i * 50) (drop (i * 50) texts)) (get_or numbers i 0) known → LinePut known (take (i * 63 + 63 - i * 63) (drop (i * 63) s)) last
+line_again : (texts numbers s : List ℕ) (i : ℕ) (known last : List ℕ) → LinesTo texts numbers s i → i < 52
+    → InformationOf (part 50 i texts) (get_or numbers i 0) known → LinePut known (take (i * 63 + 63 - i * 63) (drop (i * 63) s)) last
     → LinesTo texts numbers (take (i * 63) s ++ (last ++ drop (i * 63 + 63 - i * 63) (drop (i * 63) s))) (i + 1)
-lines_again texts numbers s i known last p h of-them put = rw width turn
+line_again texts numbers s i known last p h of-them put = rw width turn
   where
     width : i * 63 + 63 - i * 63 ≡ 63
     width = omega arith
-
-    text-width : i * 50 + 50 - i * 50 ≡ 50
-    text-width = omega arith
 
     inside : i < 63
     inside = omega arith
@@ -112,7 +111,7 @@ lines_again texts numbers s i known last p h of-them put = rw width turn
     here =
         the_line (part 50 i texts) (get_or numbers i 0) known (line_of i s) last (part_long 50 52 i texts h p.given.texts_long)
         (given (part_characters 50 52 i texts h p.given.texts_long p.given.low)) (let l = p.given.possible i in omega arith)
-        (line_long s i p.long inside) (rw text-width at of-them) (rw width at put)
+        (line_long s i p.long inside) of-them (rw width at put)
 
     size : length last ≡ 63
     size = Lines.line_long last here.line
@@ -129,8 +128,8 @@ lines_again texts numbers s i known last p h of-them put = rw width turn
           rest = λ j l m. subst Characters (sym (part_after 63 s last i 63 inside p.long size j (omega arith))) (p.rest j (omega arith) m);
         }
 
-pub lines_all : (texts numbers s : List ℕ) (i : ℕ) → LinesTo texts numbers s i → 52 ≤ i → FirstLines texts numbers s
-lines_all texts numbers s i p h =
+lines_whole : (texts numbers s : List ℕ) (i : ℕ) → LinesTo texts numbers s i → 52 ≤ i → FirstLines texts numbers s
+lines_whole texts numbers s i p h =
     record {
       long = p.long;
       low = characters_of_lines s p.long low;
@@ -140,6 +139,31 @@ lines_all texts numbers s i p h =
     low : (j : ℕ) → j < 63 → Characters (line_of j s)
     low j l = ⊎_elim (λ (b : i ≤ j). p.rest j b l) (λ (b : j < i). Lines.line_characters (line_of j s) (p.done j b).line) (le_or_lt i j)
 
+-- a text of those that are cut into fifties
+chunk_get : (k i : ℕ) (l d : List ℕ) → i < k → get_or (first_chunks 50 k l) i d ≡ part 50 i l
+chunk_get zero i l d h = absurd (omega arith)
+chunk_get (suc k) zero l d h = refl
+chunk_get (suc k) (suc i) l d h =
+    chunk_get k i (drop 50 l) d (omega arith) ∙ ap (take 50) (drop-drop (i * 50) 50 l ∙ ap (λ (n : ℕ). drop n l) (omega arith))
+
+module _ (texts numbers s : List ℕ) (i : ℕ) (chunks : List (List ℕ)) (p : LinesTo texts numbers s i) (many : length chunks ≡ length texts / 50) where
+  fifty : length texts / 50 ≡ 52
+  fifty = ap (λ (n : ℕ). n / 50) p.given.texts_long
+
+  pub lines_again : (d known last : List ℕ) → chunks ≡ first_chunks 50 (length texts / 50) texts → i < length chunks
+      → InformationOf (get_or chunks i d) (get_or numbers i 0) known → LinePut known (take (i * 63 + 63 - i * 63) (drop (i * 63) s)) last
+      → LinesTo texts numbers (take (i * 63) s ++ (last ++ drop (i * 63 + 63 - i * 63) (drop (i * 63) s))) (i + 1)
+  lines_again d known last front l of-them put = line_again texts numbers s i known last p h (subst (λ (t : List ℕ). InformationOf t (get_or numbers i 0) known) text of-them) put
+    where
+      h : i < 52
+      h = let f = fifty in omega arith
+
+      text : get_or chunks i d ≡ part 50 i texts
+      text = ap (λ (c : List (List ℕ)). get_or c i d) front ∙ chunk_get (length texts / 50) i texts d (omega arith)
+
+  pub lines_all : length chunks ≤ i → FirstLines texts numbers s
+  lines_all l = lines_whole texts numbers s i p (let f = fifty in omega arith)
+
 -- ---- one column
 
 -- the marks stand after them
@@ -147,23 +171,16 @@ unmarked_52 : (w : List ℕ) → length w ≡ 63 → take 52 (added w marks) ≡
 unfolding marks
 unmarked_52 w l = take_added 52 w marks ∙ added_none 52 (take 52 w) (length-take-le 52 w (omega arith))
 
--- the first 52 characters of a column, which fit a word
+-- the first 52 characters of a column
 pub known_long : (column : List ℕ) → length column ≡ 63 → length (take 52 column) ≡ 52
 known_long column long = length-take-le 52 column (omega arith)
 
-pub known_fits : (column : List ℕ) → length column ≡ 63 → length (take 52 column) ≤ 63
-known_fits column long = let l = known_long column long in omega arith
-
--- copied over zeros
-copied_52 : (column known : List ℕ) → length column ≡ 63 → known ≡ take (length (take 52 column)) (take 52 column) ++ drop (length (take 52 column)) (replicate 63 0)
-    → known ≡ take 52 column ++ replicate 11 0
-copied_52 column known long e =
-    e ∙ ap₂ (λ (l : List ℕ) (n : ℕ). l ++ drop n (replicate 63 0)) (take-length (take 52 column)) (known_long column long)
+pub known_fits : (column : List ℕ) → length column ≡ 63 → 52 ≡ length (take 52 column)
+known_fits column long = sym (known_long column long)
 
 -- a line with the first 52 characters of a column, its marks taken off, completes it
-pub word_completed : (column known line word : List ℕ) → length column ≡ 63 → Characters column
-    → known ≡ take (length (take 52 column)) (take 52 column) ++ drop (length (take 52 column)) (replicate 63 0)
-    → LinePut known (replicate 63 0) line → MarksAdded line word → Completes column word
+pub word_completed : (column known line word : List ℕ) → length column ≡ 63 → Characters column → known ≡ take 52 column
+    → LinePut (known ++ replicate 11 0) (replicate 63 0) line → MarksAdded line word → Completes column word
 word_completed column known line word long c e put m =
     record { clean = subst Clean (sym off) (Lines.unmarked line is-line); begins = ap (take 52) off ∙ unmarked_52 line size ∙ ap (take 52) so ∙ take_at first (checks_of (remainder first)) 52 first_long }
   where
@@ -176,7 +193,7 @@ word_completed column known line word long c e put m =
     so : line ≡ take 52 column ++ checks_of (remainder (take 52 column))
     so =
         ended_so (take 52 column) line first_long (characters_take 52 column c)
-        (subst (λ (w : List ℕ). Ended w line) (copied_52 column known long e) (put.over refl))
+        (subst (λ (w : List ℕ). Ended (w ++ replicate 11 0) line) e (put.over refl))
 
     is-line : Line line
     is-line = subst Line (sym so) (line_of_lem (take 52 column) first_long (characters_take 52 column c))

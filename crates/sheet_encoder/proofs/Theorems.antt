@@ -4,8 +4,10 @@ use mathlib.Core.List.{List, [], ◌∷◌}
 use Prim.Native.Nat.{ℕ, zero, suc, ◌<◌, ◌≤◌}
 use native.Mathlib.Omega.{arith}
 use lib.ListN.{length, get_or}
+use Rattle.std.specs.Prelude.{Result, Ok, Err}
 use Rattle.numbers.specs.Parts.{part}
 use Rattle.numbers.proofs.Parts.{part_long}
+use Rattle.refusal.specs.declared.Refusal.{Refusal}
 use Rattle.refusal.proofs.Laws.{one_answer, one_refusal, refusal_positive, passed, Passed}
 use Rattle.refusal.proofs.Ladder.{met_answer, ◌then◌}
 use Rattle.refusal.proofs.Theorems.{one_result}
@@ -14,17 +16,18 @@ use Rattle.encoder.specs.Promises.{LineWith, Encodes}
 use Rattle.encoder.proofs.Theorems.{one_line}
 use Rattle.sheet.specs.Sheet.{line_of, Proper}
 use Rattle.sheet.proofs.Theorems.{one_proper_sheet}
-use Rattle.sheet_encoder.specs.declared.SheetEncoding.{SheetEncoding}
-use Rattle.sheet_encoder.specs.declared.SheetEncoding.TheVariants as E
 use Rattle.sheet_encoder.specs.Promises.{encoding_numbers, encoding_tests, SheetWith, EncodedAs, EncodesSheet}
 use Rattle.sheet_encoder.proofs.Loops.{encoded_there, part_characters}
 
 -- the number fixes the answer of a call
-one_encoding_number : (a b : SheetEncoding) → encoding_numbers a ≡ encoding_numbers b → a ≡ b
-one_encoding_number E.Written E.Written e = refl
-one_encoding_number E.Written (E.Refused s) e = absurd (refusal_positive s (sym (ap (λ (l : List ℕ). get_or l 0 0) e)))
-one_encoding_number (E.Refused r) E.Written e = absurd (refusal_positive r (ap (λ (l : List ℕ). get_or l 0 0) e))
-one_encoding_number (E.Refused r) (E.Refused s) e = ap E.Refused (one_refusal r s (ap (λ (l : List ℕ). get_or l 0 0) e))
+head_of : (m n : ℕ) (ms ns : List ℕ) → m ∷ ms ≡ n ∷ ns → m ≡ n
+head_of m n ms ns e = cc
+
+one_encoding_number : (a b : Result Unit Refusal) → encoding_numbers a ≡ encoding_numbers b → a ≡ b
+one_encoding_number (Ok x) (Ok y) e = refl
+one_encoding_number (Ok x) (Err s) e = absurd (refusal_positive s (sym (head_of _ _ _ _ e)))
+one_encoding_number (Err r) (Ok y) e = absurd (refusal_positive r (head_of _ _ _ _ e))
+one_encoding_number (Err r) (Err s) e = ap Err (one_refusal r s (head_of _ _ _ _ e))
 
 module _ (texts numbers : List ℕ) where
   -- line i has text i and number i
@@ -48,7 +51,7 @@ module _ (texts numbers : List ℕ) where
         (λ _ f g x y p q. (p.0 ∙ sym q.0, one_sheet_with x y p.1 q.1)) old
 
     -- and so are any two answers of the call
-    pub one_encoding : (a b : SheetEncoding) (x y : List ℕ) → EncodesSheet texts numbers old (encoding_numbers a) x
+    pub one_encoding : (a b : Result Unit Refusal) (x y : List ℕ) → EncodesSheet texts numbers old (encoding_numbers a) x
         → EncodesSheet texts numbers old (encoding_numbers b) y → (a ≡ b) × (x ≡ y)
     one_encoding a b x y p q = let e = same_encoding (encoding_numbers a) (encoding_numbers b) x y p q in (one_encoding_number a b e.0, e.1)
 

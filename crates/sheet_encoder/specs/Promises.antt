@@ -1,19 +1,18 @@
 -- What encoding a sheet promises: the one proper sheet whose first 52 lines have these texts and numbers.
-use Rattle.std.specs.Prelude.{◌≡◌, List, [], ◌∷◌, ℕ, ◌<◌, length, get_or}
+use Rattle.std.specs.Prelude.{◌≡◌, Result, Ok, Err, List, [], ◌∷◌, ℕ, ◌<◌, length, get_or}
 use Rattle.numbers.specs.Below.{AllBelow}
 use Rattle.numbers.specs.Parts.{part}
+use Rattle.refusal.specs.declared.Refusal.{Refusal}
 use Rattle.refusal.specs.declared.Refusal.TheVariants.{InputLength, ValueOver, NumberOver, OutputLength}
 use Rattle.refusal.specs.Number.{number_of}
 use Rattle.refusal.specs.Promise.{Test, ◌else◌, Promise}
 use Rattle.code.specs.Word.{Characters, text, number}
 use Rattle.sheet.specs.Sheet.{characters, line_of, Proper}
-use Rattle.sheet_encoder.specs.declared.SheetEncoding.{SheetEncoding}
-use Rattle.sheet_encoder.specs.declared.SheetEncoding.TheVariants as E
 
 -- the paper's number of an encoding
-abbrev pub encoding_numbers : SheetEncoding → List ℕ
-encoding_numbers E.Written = 0 ∷ []
-encoding_numbers (E.Refused r) = number_of r ∷ []
+abbrev pub encoding_numbers : Result Unit Refusal → List ℕ
+encoding_numbers (Ok x) = 0 ∷ []
+encoding_numbers (Err r) = number_of r ∷ []
 
 abbrev pub encoding_tests : List ℕ → List ℕ → ℕ → List Test
 encoding_tests texts numbers room =

@@ -19,49 +19,35 @@ const TEXT: usize = 50;
 // The characters of all texts.
 const TEXTS: usize = 2600;
 
-// The answer of encoding a sheet.
-#[derive(Clone, Copy)]
-pub enum SheetEncoding {
-    Written,
-    Refused(Refusal),
-}
-
 // Encodes a sheet: writes the one proper sheet whose first 52 lines have these texts and numbers.
-pub fn encode_sheet(texts: &[u8], numbers: &[u16], output: &mut [u8]) -> SheetEncoding
+pub fn encode_sheet(texts: &[u8], numbers: &[u16], output: &mut [u8]) -> Result<(), Refusal>
     ensures { EncodesSheet texts.now numbers.now output.old (encoding_numbers result) output.new }
 {
     if texts.len() != TEXTS {
-        return SheetEncoding::Refused(Refusal::InputLength);
+        return Err(Refusal::InputLength);
     }
     if numbers.len() != FREE {
-        return SheetEncoding::Refused(Refusal::InputLength);
+        return Err(Refusal::InputLength);
     }
     if output.len() != SHEET {
-        return SheetEncoding::Refused(Refusal::OutputLength);
+        return Err(Refusal::OutputLength);
     }
     if !eights::all_low(texts) {
-        return SheetEncoding::Refused(Refusal::ValueOver);
+        return Err(Refusal::ValueOver);
     }
     if !possible(numbers) {
-        return SheetEncoding::Refused(Refusal::NumberOver);
+        return Err(Refusal::NumberOver);
     }
     let unmarked = sheet::marks_added(first_lines(texts, numbers));
     sheet::put(sheet::marks_added(completed(unmarked)), output);
-    SheetEncoding::Written
+    Ok(())
 }
 
 // Whether each number can be that of a line.
 fn possible(numbers: &[u16]) -> bool
     ensures { Tells (AllBelow 4096 numbers.now) result }
 {
-    let mut i: usize = 0;
-    while i < numbers.len() {
-        if numbers[i] > 4095 {
-            return false;
-        }
-        i += 1;
-    }
-    true
+    numbers.iter().all(|n| *n <= 4095)
 }
 
 // The first 52 lines, and zeros after them.
@@ -70,15 +56,13 @@ fn first_lines(texts: &[u8], numbers: &[u16]) -> [u8; SHEET]
     ensures { FirstLines texts.now numbers.now result }
 {
     let mut s = [0u8; SHEET];
-    let mut i: usize = 0;
-    while i < FREE {
-        let from = i * TEXT;
-        let to = from + TEXT;
+    let (chunks, _) = texts.as_chunks::<TEXT>();
+    for (i, text) in chunks.iter().enumerate() {
+        // the line by its index, as in sheet::marks_added: of a chunk that it lent a proof knows the length alone
         let start = i * SIDE;
         let end = start + SIDE;
-        let known = encoder::information_of(&texts[from..to], numbers[i]);
+        let known = encoder::information_of(text, numbers[i]);
         encoder::put_line(known, &mut s[start..end]);
-        i += 1;
     }
     s
 }
@@ -88,11 +72,9 @@ fn completed(mut s: [u8; SHEET]) -> [u8; SHEET]
     requires { Characters s }
     ensures { AllComplete s result }
 {
-    let mut a: u8 = 0;
-    while (a as usize) < SIDE {
+    for a in 0..SIDE as u8 {
         let word = clean_word(sheet::column_of(&s, a));
         sheet::put_column(word, a, &mut s);
-        a += 1;
     }
     s
 }
@@ -103,7 +85,7 @@ fn clean_word(column: [u8; SIDE]) -> [u8; SIDE]
     ensures { Completes column result }
 {
     let mut known = [0u8; SIDE];
-    copying::copy(&column[..FREE], &mut known);
+    known[..FREE].copy_from_slice(&column[..FREE]);
     let mut word = [0u8; SIDE];
     encoder::put_line(known, &mut word);
     sheet::add_marks(&mut word);

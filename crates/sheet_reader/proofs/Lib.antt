@@ -1,4 +1,5 @@
 -- Lines and columns read, the tests, the rounds, the ways out, and the theorems.
+pub mod Words
 pub mod Loops
 pub mod Tests
 pub mod Running

@@ -5,6 +5,7 @@ use mathlib.Core.List.{List, [], ◌∷◌}
 use Prim.Native.Nat.{ℕ, zero, suc, ◌<◌, ◌≤◌}
 use native.Mathlib.Omega.{arith}
 use lib.ListN.{length, get_or}
+use Rattle.std.specs.Prelude.{Result, Ok, Err}
 use Rattle.refusal.specs.declared.Refusal.{Refusal}
 use Rattle.refusal.specs.declared.Refusal.TheVariants.{ValueOver, OutputLength, ImproperSheet}
 use Rattle.refusal.specs.Number.{number_of}
@@ -13,7 +14,7 @@ use Rattle.refusal.proofs.Laws.{one_answer, one_refusal, refusal_positive}
 use Rattle.refusal.proofs.Ladder.{met_answer, denied, ◌then◌}
 use Rattle.refusal.proofs.Theorems.{one_result}
 use Rattle.code.specs.Word.{Characters, distance}
-use Rattle.sheet.specs.Sheet.{characters, line_of, Proper, Round, Rounds, most_rounds}
+use Rattle.sheet.specs.Sheet.{characters, line_of, Proper, Rounds, most_rounds}
 use Rattle.sheet.specs.Damage.{OneOf}
 use Rattle.sheet.proofs.Theorems as sheet
 use Rattle.sheet.proofs.Reading.{one_run}
@@ -145,7 +146,7 @@ module _ (s old : List ℕ) where
   not_refused l r c numbers x (inr p) = p.1
 
 -- any two answers of reading a sheet are equal
-pub one_reading : (s old : List ℕ) (a b : SheetReading) (x y : List ℕ) → ReadsSheet s old (reading_numbers a) x → ReadsSheet s old (reading_numbers b) y → (a ≡ b) × (x ≡ y)
+pub one_reading : (s old : List ℕ) (a b : Result SheetReading Refusal) (x y : List ℕ) → ReadsSheet s old (reading_numbers a) x → ReadsSheet s old (reading_numbers b) y → (a ≡ b) × (x ≡ y)
 one_reading s old a b x y p q =
     let e = same_reading s old (reading_numbers a) (reading_numbers b) x y p q in
     (fixed a b p q (ap (λ (l : List ℕ). get_or l 0 0) e.0) (ap (λ (l : List ℕ). get_or l 1 0) e.0), e.1)
@@ -157,17 +158,17 @@ one_reading s old a b x y p q =
         let l = (sheet.one_to_eight s 0 z run).0 in
         omega arith
 
-    fixed : (a b : SheetReading) → ReadsSheet s old (reading_numbers a) x → ReadsSheet s old (reading_numbers b) y
+    fixed : (a b : Result SheetReading Refusal) → ReadsSheet s old (reading_numbers a) x → ReadsSheet s old (reading_numbers b) y
         → get_or (reading_numbers a) 0 0 ≡ get_or (reading_numbers b) 0 0 → get_or (reading_numbers a) 1 0 ≡ get_or (reading_numbers b) 1 0 → a ≡ b
-    fixed (S.Proper m) (S.Proper n) p q e f = ap S.Proper f
-    fixed (S.Proper m) (S.Improper n) p q e f = absurd (omega arith)
-    fixed (S.Proper m) (S.Refused r) p q e f = absurd (refusal_positive r (sym e))
-    fixed (S.Improper m) (S.Proper n) p q e f = absurd (omega arith)
-    fixed (S.Improper m) (S.Improper n) p q e f = ap S.Improper f
-    fixed (S.Improper m) (S.Refused r) p q e f = absurd (no-sixteen r y q (sym e))
-    fixed (S.Refused r) (S.Proper n) p q e f = absurd (refusal_positive r e)
-    fixed (S.Refused r) (S.Improper n) p q e f = absurd (no-sixteen r x p e)
-    fixed (S.Refused r) (S.Refused t) p q e f = ap S.Refused (one_refusal r t e)
+    fixed (Ok (S.Proper m)) (Ok (S.Proper n)) p q e f = ap (λ (k : ℕ). Ok (S.Proper k)) f
+    fixed (Ok (S.Proper m)) (Ok (S.Improper n)) p q e f = absurd (omega arith)
+    fixed (Ok (S.Proper m)) (Err r) p q e f = absurd (refusal_positive r (sym e))
+    fixed (Ok (S.Improper m)) (Ok (S.Proper n)) p q e f = absurd (omega arith)
+    fixed (Ok (S.Improper m)) (Ok (S.Improper n)) p q e f = ap (λ (k : ℕ). Ok (S.Improper k)) f
+    fixed (Ok (S.Improper m)) (Err r) p q e f = absurd (no-sixteen r y q (sym e))
+    fixed (Err r) (Ok (S.Proper n)) p q e f = absurd (refusal_positive r e)
+    fixed (Err r) (Ok (S.Improper n)) p q e f = absurd (no-sixteen r x p e)
+    fixed (Err r) (Err t) p q e f = ap Err (one_refusal r t e)
 
 -- ---- damage
 

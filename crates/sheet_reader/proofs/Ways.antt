@@ -1,21 +1,24 @@
 -- The ways out of reading a sheet.
 use mathlib.Core.Path.{◌≡◌, refl, sym, ap, ◌∙◌, subst}
-use mathlib.Core.Bool.{Bool, true, false}
 use mathlib.Core.Logic.{inl, inr}
 use mathlib.Core.List.{List, [], ◌∷◌}
 use Prim.Native.Nat.{ℕ}
 use lib.ListN.{length}
+use Rattle.std.specs.Prelude.{Ok}
 use Rattle.refusal.specs.declared.Refusal.TheVariants.{ImproperSheet}
 use Rattle.refusal.specs.Number.{number_of}
-use Rattle.refusal.specs.Promise.{Test, ◌else◌, Answer, Tells}
+use Rattle.refusal.specs.Promise.{Test}
 use Rattle.refusal.proofs.Ladder.{Yes, Met, FailsAt, answer_at, refuses, met_answer}
 use Rattle.code.specs.Word.{Characters}
 use Rattle.sheet.specs.Sheet.{characters, Proper, Rounds, most_rounds}
 use Rattle.sheet.specs.Inside.{Taken, Put, bare}
 use Rattle.sheet.proofs.Entries.{bare_long, bare_twice, bare_characters}
+use Rattle.sheet_reader.specs.declared.SheetReading.{SheetReading}
+use Rattle.sheet_reader.specs.declared.SheetReading.TheVariants as S
 use Rattle.sheet_reader.specs.declared.Settled.{Settled}
-use Rattle.sheet_reader.specs.Promises.{reading_tests, Run, ReadsSheet}
-use Rattle.sheet_reader.specs.Inside.{Held, Settles}
+use Rattle.sheet_reader.specs.Promises.{reading_numbers, reading_tests, ReadsSheet}
+use Rattle.sheet_reader.specs.Inside.{rounds_of, Tells_of, Settles}
+use Rattle.sheet_reader.specs.Unmarked.{Held}
 
 -- the rounds begin with the sheet that was given, its marks off
 start_bare : (s given start : List ℕ) → length s ≡ characters → Taken s given → start ≡ bare given → start ≡ bare s
@@ -34,27 +37,34 @@ module _ (s old : List ℕ) where
   refused n f = inl (refuses (λ fields written. ⊥) 1 old tests n f)
 
   module _ (met : Met tests) (given start : List ℕ) (takes : Taken s given) (off : start ≡ bare given) where
-    module _ (m : Settled) (settles : Settles start m) (result new : List ℕ) (on : result ≡ bare m.sheet) (written : Put result old new) where
-      is-new : new ≡ bare m.sheet
-      is-new = written.over met.1.0.is ∙ on
+    from-s : bare start ≡ s
+    from-s = ap bare (start_bare s given start met.0.is takes off) ∙ bare_twice s met.0.is
 
-      from-s : bare start ≡ s
-      from-s = ap bare (start_bare s given start met.0.is takes off) ∙ bare_twice s met.0.is
+    answered : (r : SheetReading) (left new : List ℕ) → Rounds most_rounds (bare start) (rounds_of r) (bare left) → new ≡ bare left → Tells_of r (bare left)
+        → ReadsSheet s old (reading_numbers (Ok r)) new
+    unfolding ReadsSheet
+    answered (S.Proper n) left new run on tells =
+        inr (
+          met_answer tests met,
+          record {
+            answer = 0;
+            rounds = n;
+            shows = refl;
+            run = subst (λ (x : List ℕ). Rounds most_rounds x n new) from-s (subst (Rounds most_rounds (bare start) n) (sym on) run);
+            tells = inl (subst Proper (sym on) tells, refl);
+          },
+        )
+    answered (S.Improper n) left new run on tells =
+        inr (
+          met_answer tests met,
+          record {
+            answer = number_of ImproperSheet;
+            rounds = n;
+            shows = refl;
+            run = subst (λ (x : List ℕ). Rounds most_rounds x n new) from-s (subst (Rounds most_rounds (bare start) n) (sym on) run);
+            tells = inr ((λ proper. tells (subst Proper on proper)), refl);
+          },
+        )
 
-      run : Rounds most_rounds s m.rounds new
-      run =
-          subst (λ (x : List ℕ). Rounds most_rounds x m.rounds new) from-s
-          (subst (Rounds most_rounds (bare start) m.rounds) (sym is-new) settles.run)
-
-      told : Tells (Proper new) m.proper
-      told = subst (λ (x : List ℕ). Tells (Proper x) m.proper) (sym is-new) settles.tells
-
-      answered : (n : ℕ) → Answer ((Proper new else ImproperSheet) ∷ []) n → ReadsSheet s old (n ∷ m.rounds ∷ []) new
-      unfolding ReadsSheet
-      answered n a = inr (met_answer tests met, record { answer = n; rounds = m.rounds; shows = refl; run = run; tells = a })
-
-      pub proper_left : m.proper ≡ true → ReadsSheet s old (0 ∷ m.rounds ∷ []) new
-      proper_left q = answered 0 (inl (told.holds q, refl))
-
-      pub improper_left : m.proper ≡ false → ReadsSheet s old (number_of ImproperSheet ∷ m.rounds ∷ []) new
-      improper_left q = answered (number_of ImproperSheet) (inr (told.fails q, refl))
+    pub rounds_written : (m : Settled) (result new : List ℕ) → Settles start m → result ≡ bare m.sheet.cells → Put result old new → ReadsSheet s old (reading_numbers (Ok m.reading)) new
+    rounds_written m result new settles on written = answered m.reading m.sheet.cells new settles.run (written.over met.1.0.is ∙ on) settles.tells

@@ -1,5 +1,6 @@
 -- What reading a sheet promises: the tests in the paper's order; and where all hold, rounds, whose result is written, whether it is proper or not.
-use Rattle.std.specs.Prelude.{◌≡◌, ◌⊎◌, List, [], ◌∷◌, ℕ, length}
+use Rattle.std.specs.Prelude.{◌≡◌, Result, Ok, Err, ◌⊎◌, List, [], ◌∷◌, ℕ, length}
+use Rattle.refusal.specs.declared.Refusal.{Refusal}
 use Rattle.refusal.specs.declared.Refusal.TheVariants.{InputLength, ValueOver, OutputLength, ImproperSheet}
 use Rattle.refusal.specs.Number.{number_of}
 use Rattle.refusal.specs.Promise.{Test, ◌else◌, Answer, Promise}
@@ -9,10 +10,10 @@ use Rattle.sheet_reader.specs.declared.SheetReading.{SheetReading}
 use Rattle.sheet_reader.specs.declared.SheetReading.TheVariants as S
 
 -- the paper's numbers of a reading: the answer, and how many rounds were run
-abbrev pub reading_numbers : SheetReading → List ℕ
-reading_numbers (S.Proper rounds) = 0 ∷ rounds ∷ []
-reading_numbers (S.Improper rounds) = number_of ImproperSheet ∷ rounds ∷ []
-reading_numbers (S.Refused r) = number_of r ∷ 0 ∷ []
+abbrev pub reading_numbers : Result SheetReading Refusal → List ℕ
+reading_numbers (Ok (S.Proper rounds)) = 0 ∷ rounds ∷ []
+reading_numbers (Ok (S.Improper rounds)) = number_of ImproperSheet ∷ rounds ∷ []
+reading_numbers (Err r) = number_of r ∷ 0 ∷ []
 
 abbrev pub reading_tests : List ℕ → ℕ → List Test
 reading_tests s room =

@@ -1,17 +1,20 @@
 // Reading a sheet: rounds of lines and columns, until one ends as it began or eight are done.
 #![tactic(auto)]
 
-ghost use Rattle.std.specs.Prelude.{◌≡◌, length};
+ghost use Rattle.std.specs.Prelude.{◌≡◌, ◌<◌, ◌≤◌};
 ghost use Rattle.refusal.specs.Promise.{Tells};
 ghost use Rattle.code.specs.Word.{Clean};
 ghost use Rattle.mender.specs.Mender.{Word};
 ghost use Rattle.sheet.specs.Sheet.{Proper};
 ghost use Rattle.sheet.specs.Inside.{bare};
 ghost use Rattle.sheet_reader.specs.Promises.{reading_numbers, ReadsSheet};
-ghost use Rattle.sheet_reader.specs.Inside.{Held, LinesRead, ColumnsRead, LinesClean, ColumnsClean, Settles};
+ghost use Rattle.sheet_reader.specs.Inside.{word_of, WordPut, WordsRead, WordsClean, Settles};
+
+mod unmarked;
 
 use refusal::Refusal;
 use sheet::{SHEET, SIDE};
+use unmarked::Unmarked;
 
 // The most rounds that are run.
 const ROUNDS: u8 = 8;
@@ -20,186 +23,158 @@ const ROUNDS: u8 = 8;
 const RADIUS: usize = 5;
 
 // The lines that fix the others.
-const FREE: usize = 52;
+const FREE: u8 = 52;
 
-// How many rounds were run, and whether what they left, which is written, is proper; or why none was run, and then nothing is written.
+// How many rounds were run, and whether what they left, which is written, is proper.
 #[derive(Clone, Copy)]
 pub enum SheetReading {
     Proper { rounds: u8 },
     Improper { rounds: u8 },
-    Refused(Refusal),
 }
 
-// What rounds leave: a sheet without its marks, how many they were, and whether it is proper.
+// What rounds leave, and what is told of it.
 #[derive(Clone, Copy)]
 struct Settled {
-    sheet: [u8; SHEET],
-    rounds: u8,
-    proper: bool,
+    sheet: Unmarked,
+    reading: SheetReading,
 }
 
-// Reads a sheet: writes what the rounds leave.
-pub fn read_sheet(sheet: &[u8], output: &mut [u8]) -> SheetReading
+// The two ways of cutting a sheet into words.
+#[derive(Clone, Copy)]
+enum Way {
+    Lines,
+    Columns,
+}
+
+impl Way {
+    // Word i as it stands.
+    fn word(self, i: u8, s: &[u8; SHEET]) -> [u8; SIDE]
+        requires { i < 63 }
+        ensures { result ≡ word_of self i s.now }
+    {
+        match self {
+            Way::Lines => {
+                // `as` here and below: with usize::from the proof of `put` did not close
+                let start = i as usize * SIDE;
+                let mut line = [0u8; SIDE];
+                line.copy_from_slice(&s[start..start + SIDE]);
+                line
+            }
+            Way::Columns => sheet::column_of(s, i),
+        }
+    }
+
+    // Writes a word over word i.
+    fn put(self, word: [u8; SIDE], i: u8, s: &mut [u8; SHEET])
+        requires { i < 63 }
+        ensures { WordPut self word i s.old s.new }
+    {
+        match self {
+            Way::Lines => {
+                let start = i as usize * SIDE;
+                s[start..start + SIDE].copy_from_slice(&word);
+            }
+            Way::Columns => sheet::put_column(word, i, s),
+        }
+    }
+}
+
+// Reads a sheet: writes what the rounds leave. Where none was run nothing is written.
+pub fn read_sheet(sheet: &[u8], output: &mut [u8]) -> Result<SheetReading, Refusal>
     ensures { ReadsSheet sheet.now output.old (reading_numbers result) output.new }
 {
     if sheet.len() != SHEET {
-        return SheetReading::Refused(Refusal::InputLength);
+        return Err(Refusal::InputLength);
     }
     if output.len() != SHEET {
-        return SheetReading::Refused(Refusal::OutputLength);
+        return Err(Refusal::OutputLength);
     }
     if !eights::all_low(sheet) {
-        return SheetReading::Refused(Refusal::ValueOver);
+        return Err(Refusal::ValueOver);
     }
-    let left = run_rounds(sheet::marks_added(sheet::taken(sheet)));
-    let unmarked = left.sheet;
-    sheet::put(sheet::marks_added(unmarked), output);
-    if left.proper {
-        return SheetReading::Proper {
-            rounds: left.rounds,
-        };
-    }
-    SheetReading::Improper {
-        rounds: left.rounds,
-    }
+    let left = run_rounds(Unmarked {
+        cells: sheet::marks_added(sheet::taken(sheet)),
+    });
+    sheet::put(sheet::marks_added(left.sheet.cells), output);
+    Ok(left.reading)
 }
 
 // Runs rounds, each line and then each column, until one ends as it began or eight are done. A proper sheet is left as it is by a round, which need not
 // be run to be counted.
-fn run_rounds(mut s: [u8; SHEET]) -> Settled
-    requires { Held s }
-    ensures { Settles s result }
+fn run_rounds(mut s: Unmarked) -> Settled
+    ensures { Settles s.cells result }
 {
-    let mut rounds: u8 = 0;
-    while rounds < ROUNDS {
+    for rounds in 0..ROUNDS {
         if is_proper(&s) {
             return Settled {
                 sheet: s,
-                rounds: rounds + 1,
-                proper: true,
+                reading: SheetReading::Proper { rounds: rounds + 1 },
             };
         }
-        let between = lines_read(s);
-        let next = columns_read(between);
-        rounds += 1;
+        let between = words_read(Way::Lines, s);
+        let next = words_read(Way::Columns, between);
         // The end of a round is held against its beginning: its columns may undo what its lines did.
-        if same(&next, &s) {
+        if next == s {
             return Settled {
                 sheet: s,
-                rounds: rounds,
-                proper: false,
+                reading: SheetReading::Improper { rounds: rounds + 1 },
             };
         }
         s = next;
     }
-    let proper = is_proper(&s);
+    if is_proper(&s) {
+        return Settled {
+            sheet: s,
+            reading: SheetReading::Proper { rounds: ROUNDS },
+        };
+    }
     Settled {
         sheet: s,
-        rounds: rounds,
-        proper: proper,
+        reading: SheetReading::Improper { rounds: ROUNDS },
     }
 }
 
-// Each line becomes the clean word within five of it; where there is none it stays.
-fn lines_read(mut s: [u8; SHEET]) -> [u8; SHEET]
-    requires { Held s }
-    ensures { LinesRead s result }
+// Each line, or each column, becomes the clean word within five of it; where there is none it stays.
+fn words_read(way: Way, sheet: Unmarked) -> Unmarked
+    ensures { WordsRead way sheet.cells result.cells }
 {
-    let mut i: usize = 0;
-    while i < SIDE {
-        let start = i * SIDE;
-        let end = start + SIDE;
-        let found = mender::clean_within(&s[start..end], RADIUS);
-        if found.found {
-            let word = found.word;
-            line::put(word, &mut s[start..end]);
+    let mut s = sheet.cells;
+    for i in 0..SIDE as u8 {
+        let found = mender::clean_within(&way.word(i, &s), RADIUS);
+        if let Some(mended) = found {
+            way.put(mended.word, i, &mut s);
         }
-        i += 1;
     }
-    s
-}
-
-// Each column becomes the clean word within five of it; where there is none it stays.
-fn columns_read(mut s: [u8; SHEET]) -> [u8; SHEET]
-    requires { Held s }
-    ensures { ColumnsRead s result }
-{
-    let mut a: u8 = 0;
-    while (a as usize) < SIDE {
-        let column = sheet::column_of(&s, a);
-        let found = mender::clean_within(&column, RADIUS);
-        if found.found {
-            let word = found.word;
-            sheet::put_column(word, a, &mut s);
-        }
-        a += 1;
-    }
-    s
+    Unmarked { cells: s }
 }
 
 // Whether a sheet is proper, its marks put on: 52 lines and all columns tell, since these force the other lines.
-fn is_proper(s: &[u8]) -> bool
-    requires { Held s.now }
-    ensures { Tells (Proper (bare s.now)) result }
+fn is_proper(s: &Unmarked) -> bool
+    ensures { Tells (Proper (bare s.now.cells)) result }
 {
-    if !lines_clean(s) {
+    if !words_clean(Way::Lines, FREE, s) {
         return false;
     }
-    columns_clean(s)
+    words_clean(Way::Columns, SIDE as u8, s)
 }
 
-// Whether the first 52 lines are clean words.
-fn lines_clean(s: &[u8]) -> bool
-    requires { Held s.now }
-    ensures { Tells (LinesClean s.now) result }
+// Whether the first n lines, or columns, are clean words.
+fn words_clean(way: Way, n: u8, s: &Unmarked) -> bool
+    requires { n ≤ 63 }
+    ensures { Tells (WordsClean way n s.now.cells) result }
 {
-    let mut i: usize = 0;
-    while i < FREE {
-        let start = i * SIDE;
-        let end = start + SIDE;
-        if !is_clean(&s[start..end]) {
+    for i in 0..n {
+        if !is_clean(&way.word(i, &s.cells)) {
             return false;
         }
-        i += 1;
-    }
-    true
-}
-
-// Whether the columns are clean words.
-fn columns_clean(s: &[u8]) -> bool
-    requires { Held s.now }
-    ensures { Tells (ColumnsClean s.now) result }
-{
-    let mut a: u8 = 0;
-    while (a as usize) < SIDE {
-        let column = sheet::column_of(s, a);
-        if !is_clean(&column) {
-            return false;
-        }
-        a += 1;
     }
     true
 }
 
 // Whether 63 characters are a clean word.
-fn is_clean(word: &[u8]) -> bool
+fn is_clean(word: &[u8; SIDE]) -> bool
     requires { Word word.now }
     ensures { Tells (Clean word.now) result }
 {
     mender::all_zero(sums::eleven_sums(word))
-}
-
-// Whether two sheets are the same.
-fn same(s: &[u8], t: &[u8]) -> bool
-    requires { length s.now ≡ length t.now }
-    ensures { Tells (s.now ≡ t.now) result }
-{
-    let mut k: usize = 0;
-    while k < s.len() {
-        if s[k] != t[k] {
-            return false;
-        }
-        k += 1;
-    }
-    true
 }

@@ -1,7 +1,7 @@
 -- Each way in which encoding ends: as encoding a block does, and then staggered.
 use mathlib.Core.Path.{◌≡◌, refl, ap, ◌∙◌}
 use mathlib.Core.List.{List, [], ◌∷◌}
-use Prim.Native.Nat.{ℕ, zero, suc, ◌+◌, ◌-◌}
+use Prim.Native.Nat.{ℕ, zero, suc, ◌+◌, ◌-◌, ◌^◌, ◌<◌}
 use native.Mathlib.Omega.{arith}
 use lib.ListN.{length, length-append, length-map}
 use Rattle.refusal.specs.declared.Refusal.{Refusal}
@@ -15,7 +15,11 @@ use Rattle.block.specs.Block.{Holds}
 use Rattle.block.specs.Inside.{encoded, checked, with_checks}
 use Rattle.block.specs.Promises as Block
 use Rattle.block.proofs.Encoding.{holds_encoded}
-use Rattle.smudge.specs.Smudge.{side, staggered}
+use Rattle.smudge.specs.Smudge.{side}
+use Rattle.smudge.specs.Inside.{stagger, rows_in}
+use Rattle.smudge.proofs.Functions.{in_le, staggered_put}
+use Rattle.std.specs.Int.{from_le_bytes}
+use mir.Syntax.{w64}
 use Rattle.smudge.specs.Promises.{encoding_tests, EncodedAs, Encodes}
 
 -- the block with seven data rows has eight
@@ -45,9 +49,16 @@ module _ (given old : List ℕ) where
     unfolding Block.Encodes
     eight_written mid p = plain_long given mid seven p.1.0
 
-    pub staggered_encodes : (mid new : List ℕ) → Block.Encodes given old (0 ∷ []) mid → new ≡ staggered mid → Encodes given old (0 ∷ []) new
+    pub staggered_encodes : (mid new : List ℕ) (x y : ℕ) → Block.Encodes given old (0 ∷ []) mid → x < 2 ^ 64 → x ≡ from_le_bytes w64 mid → y ≡ stagger x
+        → new ≡ rows_in y → Encodes given old (0 ∷ []) new
     unfolding Block.Encodes Encodes
-    staggered_encodes mid new p e = (same_answer 0 p.0, (record { plain = mid; holds = p.1.0; stored = e }, p.1.1))
+    staggered_encodes mid new x y p h e f w = (
+      same_answer 0 p.0,
+      (
+        record { plain = mid; holds = p.1.0; stored = staggered_put mid new x y (in_le mid x (plain_long given mid seven p.1.0) p.1.0.proper.block.bytes h e) f w },
+        p.1.1,
+      ),
+    )
 
     pub refused_encodes : (r : Refusal) (mid : List ℕ) → Block.Encodes given old (number_of r ∷ []) mid → Encodes given old (number_of r ∷ []) mid
     unfolding Block.Encodes Encodes

@@ -1,25 +1,26 @@
 -- What the inner functions do, a way out at a time, over plain variables.
-use mathlib.Core.Path.{◌≡◌, refl, sym, ap, ap₂, ◌∙◌}
-use mathlib.Core.Bool.{false}
+use mathlib.Core.Path.{◌≡◌, refl, sym, ap, ap₂, subst, ◌∙◌}
 use mathlib.Core.List.{List, [], ◌∷◌}
 use Prim.Native.Nat.{ℕ, zero, suc, ◌*◌, ◌/◌, ◌%◌, ◌^◌, ◌<◌, ◌≤◌}
 use native.Mathlib.Omega.{arith}
-use lib.Bits.{bit_xor, bit_and, bit_or, and_le_r}
+use lib.Bits.{bit_and, and_le_r}
 use lib.Count.{count_trailing_zeros, trailing_le}
-use lib.Dec.{T, eqb, ltb, ltb→lt}
-use lib.ListN.{length, set}
+use lib.Dec.{T, ltb, ltb→lt}
+use lib.ListN.{length}
 use lib.Pow.{shl_exact}
-use borrow.Author.Tests.{eqb-true, eqb-false}
 use mir.Syntax.{w64}
 use mir.Val.{Fits}
 use Rattle.numbers.proofs.Cases.{pos_of_not_zero}
-use Rattle.refusal.specs.Promise.{Tells}
-use Rattle.refusal.proofs.Laws.{tells_no}
-use Rattle.eights.specs.Inside.{byte, HoldsBytes, eight_from}
+use Rattle.std.specs.Array.{IsWholeChunk}
+use Rattle.std.specs.Int.{to_le_bytes, from_le_bytes}
+use Rattle.std.proofs.lemmas.Nat.{le_bytes_8}
+use Rattle.block.specs.Block.{Bytes}
+use Rattle.eights.proofs.Laws.{byte_zero}
+use Rattle.eights.specs.Inside.{byte}
 use Rattle.block.proofs.Bits.{byte_ones}
 use Rattle.smudge.specs.Smudge.{side, staggered}
-use Rattle.smudge.specs.Inside.{stagger, lowest, odd_rows, wrong_columns, Sound, crossings, whole_row, window, first_cells, holding, windows_with, first_of, first_with, smudge_for, smudge_in, rows_in}
-use Rattle.smudge.proofs.Turns.{in_rows, one_block, in_stagger, stagger_lt}
+use Rattle.smudge.specs.Inside.{stagger, lowest, odd_rows, wrong_columns, crossings, whole_row, window, first_cells, holding, windows_with, first_of, first_with, smudge_for, smudge_in, rows_in}
+use Rattle.smudge.proofs.Turns.{InOne, in_rows, one_block, in_stagger, stagger_lt}
 use Rattle.smudge.proofs.Mending.{in_eight, lowest_most}
 use Rattle.smudge.proofs.Mending as Mending
 
@@ -32,23 +33,6 @@ pub trailing_inside : (h m : ℕ) → T (ltb m 18446744073709551616) → (bit_an
 trailing_inside h m t d = Mending.trailing_inside (bit_and h m) (pos_of_not_zero (bit_and h m) d) (omega (arith, and_le_r h m, ltb→lt m 18446744073709551616 t))
 
 -- ---- holding
-
-module _ (n a b c d : ℕ) where
-  pub holding_none : n ≡ 0 → 0 ≡ holding n a b c d
-  unfolding holding
-  holding_none e = rw e refl
-
-  pub holding_one : n ≡ 1 → bit_or (bit_or a b) (bit_or c d) ≡ holding n a b c d
-  unfolding holding
-  holding_one e = rw e refl
-
-  pub holding_two : n ≡ 2 → bit_or (bit_or (bit_and a b) (bit_and c d)) (bit_and (bit_xor a b) (bit_xor c d)) ≡ holding n a b c d
-  unfolding holding
-  holding_two e = rw e refl
-
-  pub holding_three : n ≡ 3 → bit_or (bit_and (bit_and a b) (bit_xor c d)) (bit_and (bit_xor a b) (bit_and c d)) ≡ holding n a b c d
-  unfolding holding
-  holding_three e = rw e refl
 
 pub holding_four : (n a b c d : ℕ) → 4 ≤ n → bit_and (bit_and a b) (bit_and c d) ≡ holding n a b c d
 unfolding holding
@@ -82,37 +66,20 @@ module _ (n f h : ℕ) (e : h ≡ holding n f (f / 2 ^ 1) (f / 2 ^ 8) (f / 2 ^ 9
       ap (bit_and f) (shl_exact 10 (count_trailing_zeros 64 (bit_and h first_cells)) 64 (omega arith) (omega (arith, lowest_most h d)))
       ∙ ap (λ (m : ℕ). bit_and f (window * 2 ^ count_trailing_zeros 64 m)) q ∙ first_some f (windows_with n f) (λ z. d (q ∙ z))
 
--- ---- eight rows written
+-- ---- eight rows read and written
 
--- an output with its rows n to 1 written over row 0
-unfoldable pub put : ℕ → ℕ → List ℕ → List ℕ
-put x zero first = first
-put x (suc n) first = set (put x n first) (suc n) (byte x (suc n))
+-- the bytes of a number, lowest first, are its rows
+pub le_rows : (x : ℕ) → to_le_bytes w64 x ≡ rows_in x
+unfolding byte
+le_rows x = ap (λ (b : ℕ). b ∷ byte x 1 ∷ byte x 2 ∷ byte x 3 ∷ byte x 4 ∷ byte x 5 ∷ byte x 6 ∷ byte x 7 ∷ []) (sym (byte_zero x))
 
-pub eight_put : (x a : ℕ) (old : List ℕ) → length old ≡ side → a ≡ byte x 0 → put x 7 (set old 0 a) ≡ rows_in x
-unfolding put
-eight_put x a [] l e = absurd (omega arith)
-eight_put x a (o0 ∷ []) l e = absurd (omega arith)
-eight_put x a (o0 ∷ o1 ∷ []) l e = absurd (omega arith)
-eight_put x a (o0 ∷ o1 ∷ o2 ∷ []) l e = absurd (omega arith)
-eight_put x a (o0 ∷ o1 ∷ o2 ∷ o3 ∷ []) l e = absurd (omega arith)
-eight_put x a (o0 ∷ o1 ∷ o2 ∷ o3 ∷ o4 ∷ []) l e = absurd (omega arith)
-eight_put x a (o0 ∷ o1 ∷ o2 ∷ o3 ∷ o4 ∷ o5 ∷ []) l e = absurd (omega arith)
-eight_put x a (o0 ∷ o1 ∷ o2 ∷ o3 ∷ o4 ∷ o5 ∷ o6 ∷ []) l e = absurd (omega arith)
-eight_put x a (o0 ∷ o1 ∷ o2 ∷ o3 ∷ o4 ∷ o5 ∷ o6 ∷ o7 ∷ []) l e = rw e refl
-eight_put x a (o0 ∷ o1 ∷ o2 ∷ o3 ∷ o4 ∷ o5 ∷ o6 ∷ o7 ∷ o8 ∷ os) l e = absurd (omega arith)
+-- and the number of eight rows holds them
+pub in_le : (rows : List ℕ) (x : ℕ) → length rows ≡ side → Bytes rows → x < 2 ^ 64 → x ≡ from_le_bytes w64 rows → InOne rows x
+in_le rows x l b h e = subst (λ (r : List ℕ). InOne r x) (sym (le_rows x) ∙ le_bytes_8 rows x l b e) (in_rows x h)
 
--- ---- whether nothing is wrong
-
-pub rows_wrong : (x odd : ℕ) → odd ≡ odd_rows x → (odd ≡ 0 → ⊥) → Tells (Sound x) false
-rows_wrong x odd e d = tells_no (λ s. d (e ∙ s.rows))
-
-pub columns_tell : (x odd wrong : ℕ) → odd ≡ odd_rows x → wrong ≡ wrong_columns x → odd ≡ 0 → Tells (Sound x) (eqb wrong 0)
-columns_tell x odd wrong e f z =
-    record {
-      holds = λ t. record { rows = sym e ∙ z; columns = sym f ∙ eqb-true wrong 0 t };
-      fails = λ t s. eqb-false wrong 0 t (f ∙ s.columns);
-    }
+-- those of a slice that was taken as an array
+pub in_array : (rows eight : List ℕ) (x : ℕ) → IsWholeChunk rows eight 8 → Bytes rows → x < 2 ^ 64 → x ≡ from_le_bytes w64 eight → InOne rows x
+in_array rows eight x w b h e = in_le rows x w.long b h (rw w.same at e)
 
 -- ---- the smudge
 
@@ -124,6 +91,6 @@ smudge_is x odd wrong cells p e f h g q =
 
 -- ---- a block staggered
 
-pub staggered_put : (rows new : List ℕ) (x y : ℕ) → length rows ≡ side → x < 2 ^ 64 → HoldsBytes (eight_from rows 0) x → y ≡ stagger x → new ≡ rows_in y → new ≡ staggered rows
-staggered_put rows new x y l h s e w =
-    w ∙ ap rows_in e ∙ one_block (rows_in (stagger x)) (staggered rows) (stagger x) (in_rows (stagger x) (stagger_lt x)) (in_stagger rows x (in_eight rows x l h s))
+pub staggered_put : (rows new : List ℕ) (x y : ℕ) → InOne rows x → y ≡ stagger x → new ≡ rows_in y → new ≡ staggered rows
+staggered_put rows new x y s e w =
+    w ∙ ap rows_in e ∙ one_block (rows_in (stagger x)) (staggered rows) (stagger x) (in_rows (stagger x) (stagger_lt x)) (in_stagger rows x s)

@@ -25,7 +25,7 @@ use Rattle.smudge.specs.Inside.{odd_rows, wrong_columns, Sound, smudge_in, windo
 use Rattle.smudge.proofs.Cells.{lowest_eight, lowest_long, lowest_bytes, lowest_cell}
 use Rattle.smudge.proofs.Ranges.{either}
 use Rattle.smudge.proofs.Turns.{bit_of, InOne, in_cell, in_rows, one_block}
-use Rattle.smudge.proofs.Parities.{stored_sound, sound_stored, rows_damaged, columns_damaged, columns}
+use Rattle.smudge.proofs.Parities.{stored_sound, sound_stored, rows_damaged, columns_damaged}
 use Rattle.smudge.proofs.Windows.{cells_of, none_outside, outside_none, inside_found, inside_few}
 
 -- ---- every block of eight rows is in a number

@@ -1,6 +1,6 @@
 -- Each way in which reading ends.
 use mathlib.Core.Path.{◌≡◌, refl, sym, ap, ap₂, ◌∙◌}
-use mathlib.Core.Bool.{Bool, true, false, not}
+use mathlib.Core.Bool.{Bool, true, false}
 use mathlib.Core.List.{List, [], ◌∷◌}
 use Prim.Native.Nat.{ℕ, zero, suc, ◌+◌, ◌*◌, ◌^◌, ◌<◌}
 use native.Mathlib.Nat.{mul-suc}
@@ -8,7 +8,6 @@ use native.Mathlib.Omega.{arith}
 use lib.Bits.{bit_xor, xor_zero_r}
 use lib.Count.{ones_in}
 use lib.ListN.{length}
-use borrow.Author.Tests.{not-true, not-false}
 use Rattle.numbers.proofs.Xor.{xor_undo}
 use Rattle.refusal.specs.Promise.{Test, Tells}
 use Rattle.refusal.proofs.Ladder.{FailsAt, answer_at, refuses, succeeds, given}
@@ -79,11 +78,11 @@ module _ (rows old : List ℕ) (x : ℕ) (s : InOne rows x) (room : length old �
 
   module _ (p : ℕ) (found : p ≡ smudge_in x) (h : p < 2 ^ 64) (b : Bool) (v : Tells (Sound (bit_xor x p)) b) where
     -- what was found leaves something wrong: no window serves
-    pub read_none : not b ≡ true → Reads rows old (9 ∷ 0 ∷ []) old
+    pub read_none : b ≡ false → Reads rows old (9 ∷ 0 ∷ []) old
     read_none e =
         refused rows old 2
-        (given s.long, (given room, record { not = λ m. v.fails (not-true b e) (rw (← found) at (smudged_mended rows x s m.0 m.1).1) }))
+        (given s.long, (given room, record { not = λ m. v.fails e (rw (← found) at (smudged_mended rows x s m.0 m.1).1) }))
 
     -- what was found leaves nothing wrong
-    pub read_mended : (new : List ℕ) (d : ℕ) → not b ≡ false → new ≡ rows_in (bit_xor x p) → d ≡ lib.Count.ones p → Reads rows old (0 ∷ d ∷ []) new
-    read_mended new d e w q = rw (w, q) (taken p h (rw (← found) at (found_in_window (odd_rows x) (wrong_columns x))) (v.holds (not-false b e)))
+    pub read_mended : (new : List ℕ) (d : ℕ) → b ≡ true → new ≡ rows_in (bit_xor x p) → d ≡ lib.Count.ones p → Reads rows old (0 ∷ d ∷ []) new
+    read_mended new d e w q = rw (w, q) (taken p h (rw (← found) at (found_in_window (odd_rows x) (wrong_columns x))) (v.holds e))

@@ -5,12 +5,11 @@ use Prim.Native.Nat.{ℕ, ◌-◌, ◌<◌, ◌≤◌, ◌^◌}
 use lib.ListN.{length, replicate}
 use lib.Bits.{bit_xor, xor_lt}
 use Rattle.numbers.proofs.Xor.{xor_undo}
+use Rattle.std.specs.Prelude.{Result, Ok, Err}
+use Rattle.refusal.specs.declared.Refusal.{Refusal}
 use Rattle.refusal.specs.declared.Refusal.TheVariants.{NoBlock}
 use Rattle.refusal.proofs.Ladder.{given, succeeds}
 use Rattle.refusal.proofs.Theorems.{one_result, same_numbers}
-use Rattle.block.specs.declared.BlockReading.{BlockReading}
-use Rattle.block.specs.declared.BlockReading.TheVariants as R
-use Rattle.block.specs.declared.BlockEncoding.{BlockEncoding}
 use Rattle.block.specs.Block.{Bytes, data_of, distance}
 use Rattle.block.specs.Promises.{reading_numbers, encoding_numbers}
 use Rattle.block.proofs.Results.{reading_fixed, encoding_fixed}
@@ -70,14 +69,14 @@ apart_in_columns r c i j k l w a b e = Spreading.spread column_to tt r c i j k l
 -- ---- reading
 
 -- any two results of reading are equal
-pub one_reading : (rows old : List ℕ) (r s : BlockReading) (x y : List ℕ) → Reads rows old (reading_numbers r) x → Reads rows old (reading_numbers s) y → (r ≡ s) × (x ≡ y)
+pub one_reading : (rows old : List ℕ) (r s : Result ℕ Refusal) (x y : List ℕ) → Reads rows old (reading_numbers r) x → Reads rows old (reading_numbers s) y → (r ≡ s) × (x ≡ y)
 unfolding Reads
 one_reading rows old r s x y p q =
     let e = one_result (reading_tests rows (length old)) (ReadAs rows) 1 (λ _. one_read_as rows) old (reading_numbers r) (reading_numbers s) x y p q in
     (reading_fixed r s e.0, e.1)
 
 -- and so are any two answers to the same rows with outputs of one length, whatever lay in them
-pub same_reading : (rows o p : List ℕ) (r s : BlockReading) (x y : List ℕ) → length o ≡ length p → Reads rows o (reading_numbers r) x → Reads rows p (reading_numbers s) y → r ≡ s
+pub same_reading : (rows o p : List ℕ) (r s : Result ℕ Refusal) (x y : List ℕ) → length o ≡ length p → Reads rows o (reading_numbers r) x → Reads rows p (reading_numbers s) y → r ≡ s
 unfolding Reads
 same_reading rows o p r s x y l t u =
     reading_fixed r s
@@ -89,27 +88,27 @@ smudged_reads rows block old long room m =
     succeeds (ReadAs rows) 1 old (reading_tests rows (length old)) (distance rows block ∷ []) block (given long, (given room, (given (block, m), tt))) (m, refl)
 
 -- where some window serves, the block is what the rows are read as, with its distance
-pub read_smudged : (rows block old new : List ℕ) (r : BlockReading) → length rows ≡ side → length old ≡ side → Smudged rows block → Reads rows old (reading_numbers r) new
-    → (r ≡ R.Block (distance rows block)) × (new ≡ block)
+pub read_smudged : (rows block old new : List ℕ) (r : Result ℕ Refusal) → length rows ≡ side → length old ≡ side → Smudged rows block → Reads rows old (reading_numbers r) new
+    → (r ≡ Ok (distance rows block)) × (new ≡ block)
 read_smudged rows block old new r long room m h =
-    one_reading rows old r (R.Block (distance rows block)) new block h (smudged_reads rows block old long room m)
+    one_reading rows old r (Ok (distance rows block)) new block h (smudged_reads rows block old long room m)
 
 -- and where none serves, they are refused, with 9
-pub read_no_window : (rows old new : List ℕ) (r : BlockReading) → length rows ≡ side → length old ≡ side → (Mendable rows → ⊥) → Reads rows old (reading_numbers r) new
-    → (r ≡ R.Refused NoBlock) × (new ≡ old)
+pub read_no_window : (rows old new : List ℕ) (r : Result ℕ Refusal) → length rows ≡ side → length old ≡ side → (Mendable rows → ⊥) → Reads rows old (reading_numbers r) new
+    → (r ≡ Err NoBlock) × (new ≡ old)
 read_no_window rows old new r long room none h =
-    one_reading rows old r (R.Refused NoBlock) new old h (refused rows old 2 (given long, (given room, record { not = none })))
+    one_reading rows old r (Err NoBlock) new old h (refused rows old 2 (given long, (given room, record { not = none })))
 
 -- ---- encoding
 
 -- any two results of encoding are equal
-pub one_encoding : (given old : List ℕ) (r s : BlockEncoding) (x y : List ℕ) → Encodes given old (encoding_numbers r) x → Encodes given old (encoding_numbers s) y → (r ≡ s) × (x ≡ y)
+pub one_encoding : (given old : List ℕ) (r s : Result Unit Refusal) (x y : List ℕ) → Encodes given old (encoding_numbers r) x → Encodes given old (encoding_numbers s) y → (r ≡ s) × (x ≡ y)
 unfolding Encodes
 one_encoding given old r s x y p q =
     let e = one_result (encoding_tests given (length old)) (EncodedAs given) 0 (λ _. one_encoded_as given) old (encoding_numbers r) (encoding_numbers s) x y p q in
     (encoding_fixed r s e.0, e.1)
 
-pub same_encoding : (given o p : List ℕ) (r s : BlockEncoding) (x y : List ℕ) → length o ≡ length p → Encodes given o (encoding_numbers r) x → Encodes given p (encoding_numbers s) y → r ≡ s
+pub same_encoding : (given o p : List ℕ) (r s : Result Unit Refusal) (x y : List ℕ) → length o ≡ length p → Encodes given o (encoding_numbers r) x → Encodes given p (encoding_numbers s) y → r ≡ s
 unfolding Encodes
 same_encoding given o p r s x y l t u =
     encoding_fixed r s
@@ -145,9 +144,9 @@ one_stored a b s t e = one_record (data_of (straightened b)) a b (rw e at (store
 
 -- ---- the way round: an encoded block, smudged in one window, is read as it was
 
-pub read_encoded : (given block rows old new : List ℕ) (row column : ℕ) (r : BlockReading) → length given ≡ side - 1 → Records given block → length rows ≡ side → length old ≡ side
+pub read_encoded : (given block rows old new : List ℕ) (row column : ℕ) (r : Result ℕ Refusal) → length given ≡ side - 1 → Records given block → length rows ≡ side → length old ≡ side
     → Window row column → ((i j : ℕ) → i < side → j < side → (Inside row column i j → ⊥) → cell block i j ≡ cell rows i j) → Reads rows old (reading_numbers r) new
-    → (r ≡ R.Block (distance rows block)) × (new ≡ block)
+    → (r ≡ Ok (distance rows block)) × (new ≡ block)
 read_encoded given block rows old new row column r seven h long room w out =
     read_smudged rows block old new r long room
     (record { stored = (encoded_stored given block seven h).0; row = row; column = column; window = w; outside = out })
@@ -155,5 +154,5 @@ read_encoded given block rows old new row column r seven h long room w out =
 -- ---- dark film
 
 -- eight dark rows are refused, with 9
-pub read_dark : (old new : List ℕ) (r : BlockReading) → length old ≡ side → Reads (replicate side 0) old (reading_numbers r) new → (r ≡ R.Refused NoBlock) × (new ≡ old)
+pub read_dark : (old new : List ℕ) (r : Result ℕ Refusal) → length old ≡ side → Reads (replicate side 0) old (reading_numbers r) new → (r ≡ Err NoBlock) × (new ≡ old)
 read_dark old new r room = read_no_window (replicate side 0) old new r refl room Spreading.dark_none

@@ -11,7 +11,6 @@ ghost use Rattle.smudge.specs.Smudge.{side, staggered};
 ghost use Rattle.smudge.specs.Promises.{Reads, Encodes};
 ghost use Rattle.smudge.specs.Inside.{straight, stagger, odd_rows, wrong_columns, Sound, holding, first_with, smudge_in, rows_in};
 
-use block::{BlockEncoding, BlockReading};
 use refusal::Refusal;
 
 // The rows of a stored block.
@@ -92,29 +91,20 @@ fn wrong_columns(x: u64) -> u8
 fn is_sound(x: u64) -> bool
     ensures { Tells (Sound x) result }
 {
-    if odd_rows(x) != 0 {
-        return false;
-    }
-    wrong_columns(x) == 0
+    odd_rows(x) == 0 && wrong_columns(x) == 0
 }
 
 // Where four numbers together hold so many ones. Where they hold more it may tell so too, but no window holds more crossings than there are wrong columns.
 fn holding(count: u8, a: u64, b: u64, c: u64, d: u64) -> u64
     ensures { result ≡ holding count a b c d }
 {
-    if count == 0 {
-        return 0;
+    match count {
+        0 => 0,
+        1 => (a | b) | (c | d),
+        2 => ((a & b) | (c & d)) | ((a ^ b) & (c ^ d)),
+        3 => ((a & b) & (c ^ d)) | ((a ^ b) & (c & d)),
+        _ => (a & b) & (c & d),
     }
-    if count == 1 {
-        return (a | b) | (c | d);
-    }
-    if count == 2 {
-        return ((a & b) | (c & d)) | ((a ^ b) & (c ^ d));
-    }
-    if count == 3 {
-        return ((a & b) & (c ^ d)) | ((a ^ b) & (c & d));
-    }
-    (a & b) & (c & d)
 }
 
 // Of the cells where odd rows and wrong columns cross, those in the first window that holds so many of them; none where no window does.
@@ -125,7 +115,7 @@ fn first_with(count: u8, cells: u64) -> u64
     if firsts == 0 {
         return 0;
     }
-    cells & (WINDOW << u64::trailing_zeros(firsts))
+    cells & (WINDOW << firsts.trailing_zeros())
 }
 
 // The smudge of a block, if it has one. A window's cells come to four rows and to four columns, so that a smudge is all the crossings in its window, and these
@@ -134,91 +124,53 @@ fn smudge_in(x: u64) -> u64
     ensures { result ≡ smudge_in x }
 {
     let columns = wrong_columns(x);
-    let crossings = staggered((odd_rows(x) * WHOLE_ROW) & (columns as u64 * LOWEST));
-    first_with(u8::count_ones(columns) as u8, crossings)
+    let crossings = staggered((odd_rows(x) * WHOLE_ROW) & (u64::from(columns) * LOWEST));
+    first_with(columns.count_ones() as u8, crossings)
 }
 
 // How many cells a number has.
 fn cells_in(p: u64) -> u8
     ensures { result ≡ ones p }
 {
-    u64::count_ones(p) as u8
-}
-
-// Eight rows as one number.
-fn eight_rows(rows: &[u8]) -> u64
-    requires { length rows.now ≡ side }
-    ensures { HoldsBytes (eight_from rows.now 0) result }
-{
-    eights::eight(
-        rows[0], rows[1], rows[2], rows[3], rows[4], rows[5], rows[6], rows[7],
-    )
-}
-
-// And written out.
-fn put_rows(x: u64, output: &mut [u8])
-    requires { length output.old ≡ side }
-    ensures { output.new ≡ rows_in x }
-{
-    output[0] = (x % 256) as u8;
-    output[1] = ((x >> 8) % 256) as u8;
-    output[2] = ((x >> 16) % 256) as u8;
-    output[3] = ((x >> 24) % 256) as u8;
-    output[4] = ((x >> 32) % 256) as u8;
-    output[5] = ((x >> 40) % 256) as u8;
-    output[6] = ((x >> 48) % 256) as u8;
-    output[7] = ((x >> 56) % 256) as u8;
-}
-
-// A block staggered where it lies.
-fn stagger_rows(output: &mut [u8])
-    requires { length output.old ≡ side }
-    ensures { output.new ≡ staggered output.old }
-{
-    let plain = eight_rows(output);
-    put_rows(staggered(plain), output);
+    p.count_ones() as u8
 }
 
 // Reads a stored block: writes the one that differs from the rows inside one window alone. What the parities ask for is taken off, and then nothing may be left
 // wrong.
-pub fn read_smudge(rows: &[u8], output: &mut [u8]) -> BlockReading
+pub fn read_smudge(rows: &[u8], output: &mut [u8]) -> Result<u8, Refusal>
     ensures { Reads rows.now output.old (reading_numbers result) output.new }
 {
-    if rows.len() != SIDE {
-        return BlockReading::Refused(Refusal::RowCount);
-    }
+    let Ok(eight) = <[u8; SIDE]>::try_from(rows) else {
+        return Err(Refusal::RowCount);
+    };
     if output.len() != SIDE {
-        return BlockReading::Refused(Refusal::OutputLength);
+        return Err(Refusal::OutputLength);
     }
-    let x = eight_rows(rows);
+    let x = u64::from_le_bytes(eight);
     if is_sound(x) {
-        put_rows(x, output);
-        return BlockReading::Block { distance: 0 };
+        output.copy_from_slice(&x.to_le_bytes());
+        return Ok(0);
     }
     let smudge = smudge_in(x);
     let clean = x ^ smudge;
     if !is_sound(clean) {
-        return BlockReading::Refused(Refusal::NoBlock);
+        return Err(Refusal::NoBlock);
     }
-    put_rows(clean, output);
-    BlockReading::Block {
-        distance: cells_in(smudge),
-    }
+    output.copy_from_slice(&clean.to_le_bytes());
+    Ok(cells_in(smudge))
 }
 
 // Encodes seven data rows: writes the proper block with them, staggered.
-pub fn encode_smudge(given: &[u8], output: &mut [u8]) -> BlockEncoding
+pub fn encode_smudge(given: &[u8], output: &mut [u8]) -> Result<(), Refusal>
     ensures { Encodes given.now output.old (encoding_numbers result) output.new }
 {
     if given.len() != DATA_ROWS {
-        return BlockEncoding::Refused(Refusal::RowCount);
+        return Err(Refusal::RowCount);
     }
-    let encoding = block::encode_block(given, output);
-    match encoding {
-        BlockEncoding::Written => {
-            stagger_rows(output);
-            BlockEncoding::Written
-        }
-        BlockEncoding::Refused(why) => BlockEncoding::Refused(why),
-    }
+    block::encode_block(given, output)?;
+    let mut plain = [0; SIDE];
+    plain.copy_from_slice(output);
+    let stored = staggered(u64::from_le_bytes(plain));
+    output.copy_from_slice(&stored.to_le_bytes());
+    Ok(())
 }

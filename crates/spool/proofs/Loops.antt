@@ -1,6 +1,6 @@
 -- The turns of the loop over the lines of a spool.
 use mathlib.Core.Path.{◌≡◌, refl, sym, ap, ◌∙◌, subst}
-use mathlib.Core.List.{List, [], ◌∷◌, ◌++◌}
+use mathlib.Core.List.{List, ◌++◌}
 use Prim.Native.Nat.{ℕ, zero, suc, ◌+◌, ◌-◌, ◌*◌, ◌<◌, ◌≤◌}
 use native.Mathlib.Omega.{arith}
 use borrow.Author.Count.{below_none, below_more}
@@ -8,19 +8,20 @@ use lib.ListN.{length, get_or, set, take, drop, length-set, replicate}
 use lib.Seq.{get_or-set_same, get_or-set_other}
 use Rattle.numbers.specs.Parts.{part}
 use Rattle.numbers.proofs.Parts.{part_long, replaced, replaced_long, part_same, part_before, part_after}
-use Rattle.line.specs.declared.LineReading.{LineReading}
+use Rattle.refusal.specs.declared.Refusal.{Refusal}
+use Rattle.line.specs.declared.Reading.{Reading}
 use Rattle.line.specs.declared.PlainReading.{PlainReading}
-use Rattle.line.specs.declared.Wanted.TheVariants.{Any}
+use Rattle.std.specs.Prelude.{None, Result}
 use Rattle.line.specs.Promises.{reading_numbers, plain_numbers, Reads}
 use Rattle.spool.specs.Promises.{no_place, no_places, left_of, Each}
 
 -- a reading, in plain numbers
-pub plainly : (w : List ℕ) (t : ℕ) (old new : List ℕ) (r : LineReading) (p : PlainReading) → Reads w t Any old (reading_numbers r) new
-    → plain_numbers p ≡ reading_numbers r → Reads w t Any old (plain_numbers p) new
-plainly w t old new r p reads e = subst (λ (n : List ℕ). Reads w t Any old n new) (sym e) reads
+pub plainly : (w : List ℕ) (t : ℕ) (old new : List ℕ) (r : Result Reading Refusal) (p : PlainReading) → Reads w t None old (reading_numbers r) new
+    → plain_numbers p ≡ reading_numbers r → Reads w t None old (plain_numbers p) new
+plainly w t old new r p reads e = subst (λ (n : List ℕ). Reads w t None old n new) (sym e) reads
 
 abbrev ReadAt : List ℕ → ℕ → List ℕ → List ℕ → List PlainReading → ℕ → Type 0
-ReadAt lines t old out places k = Reads (part 63 k lines) t Any (part 63 k old) (plain_numbers (get_or places k no_place)) (part 63 k out)
+ReadAt lines t old out places k = Reads (part 63 k lines) t None (part 63 k old) (plain_numbers (get_or places k no_place)) (part 63 k out)
 
 -- the first i lines are read, and the rest is as it was
 pub record EachTo (lines : List ℕ) (t : ℕ) (old out : List ℕ) (n : ℕ) (places : List PlainReading) (i : ℕ) : Type 0 where
@@ -57,7 +58,7 @@ each_none lines t old n places s f o e =
 -- a line is read into its own part of the output
 pub each_more : (lines : List ℕ) (t : ℕ) (old out : List ℕ) (n : ℕ) (places : List PlainReading) (i : ℕ) (last : List ℕ) (p : PlainReading)
     → EachTo lines t old out n places i → i < n → length last ≡ length (take (i * 63 + 63 - i * 63) (drop (i * 63) out))
-    → Reads (take (i * 63 + 63 - i * 63) (drop (i * 63) lines)) t Any (take (i * 63 + 63 - i * 63) (drop (i * 63) out)) (plain_numbers p) last
+    → Reads (take (i * 63 + 63 - i * 63) (drop (i * 63) lines)) t None (take (i * 63 + 63 - i * 63) (drop (i * 63) out)) (plain_numbers p) last
     → EachTo lines t old (take (i * 63) out ++ (last ++ drop (i * 63 + 63 - i * 63) (drop (i * 63) out))) n (set places i p) (i + 1)
 each_more lines t old out n places i last p a h long reads = rw width turn
   where
@@ -67,7 +68,7 @@ each_more lines t old out n places i last p a h long reads = rw width turn
     el : length last ≡ 63
     el = long ∙ rw width (part_long 63 n i out h a.long)
 
-    here : Reads (part 63 i lines) t Any (part 63 i old) (plain_numbers p) last
+    here : Reads (part 63 i lines) t None (part 63 i old) (plain_numbers p) last
     here = rw (← a.untouched i (omega arith)) (rw width at reads)
 
     turn : EachTo lines t old (take (i * 63) out ++ (last ++ drop 63 (drop (i * 63) out))) n (set places i p) (i + 1)

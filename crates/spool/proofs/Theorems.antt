@@ -1,8 +1,8 @@
 -- What is proved of a spool, in the request's words: one result; each line as if it were read by itself; what a refused line leaves; zeros; no lines; and what is refused.
-use mathlib.Core.Path.{◌≡◌, refl, sym, ap, ap₂, ◌∙◌, subst}
-use mathlib.Core.Logic.{⊎_elim, inl, inr}
+use mathlib.Core.Path.{◌≡◌, refl, sym, ap, ap₂, ◌∙◌}
+use mathlib.Core.Logic.{⊎_elim}
 use mathlib.Core.List.{List, [], ◌∷◌}
-use Prim.Native.Nat.{ℕ, zero, suc, ◌*◌, ◌/◌, ◌%◌, ◌<◌, ◌≤◌}
+use Prim.Native.Nat.{ℕ, zero, suc, ◌*◌, ◌<◌, ◌≤◌}
 use native.Mathlib.Nat.{div-add-mod'}
 use native.Mathlib.Omega.{arith}
 use lib.ListN.{length, get_or}
@@ -10,20 +10,19 @@ use lib.Seq.{ext_get_or}
 use Rattle.numbers.specs.Parts.{part}
 use Rattle.numbers.proofs.Cases.{le_or_lt}
 use Rattle.numbers.proofs.Parts.{part_long, same_parts}
+use Rattle.refusal.specs.declared.Refusal.{Refusal}
 use Rattle.refusal.specs.Promise.{Leaves}
 use Rattle.refusal.proofs.Laws.{one_answer, one_refusal, refusal_positive, passed, Passed}
 use Rattle.refusal.proofs.Ladder.{met_answer, denied, ◌then◌}
 use Rattle.refusal.proofs.Theorems.{one_result}
 use Rattle.code.specs.Word.{Characters}
-use Rattle.line.specs.declared.Wanted.TheVariants.{Any}
+use Rattle.std.specs.Prelude.{None, Result, Ok, Err}
 use Rattle.line.specs.declared.PlainReading.{PlainReading}
-use Rattle.line.specs.declared.LineReading.{LineReading}
+use Rattle.line.specs.declared.Reading.{Reading}
 use Rattle.line.specs.Promises.{reading_numbers, plain_numbers, ReadAs, Reads}
 use Rattle.line.proofs.Theorems.{same_result, one_plain_reading}
-use Rattle.line.proofs.Reading as line
-use Rattle.spool.specs.declared.SpoolAnswer.{SpoolAnswer}
-use Rattle.spool.specs.declared.SpoolAnswer.TheVariants as S
-use Rattle.spool.specs.Promises.{spool_numbers, no_place, no_places, Left, left_of, place, Each, Whole, line_count, spool_tests, SpooledAs, Spools}
+use Rattle.line.proofs.Ways as line
+use Rattle.spool.specs.Promises.{spool_numbers, places_of, no_place, no_places, Left, left_of, place, Each, Whole, line_count, spool_tests, SpooledAs, Spools}
 use Rattle.spool.proofs.Loops.{none_at}
 use Rattle.spool.proofs.Ways.{refused, read}
 
@@ -31,15 +30,15 @@ use Rattle.spool.proofs.Ways.{refused, read}
 lines_long : (lines : List ℕ) → Whole (length lines) → length lines ≡ line_count lines * 63
 lines_long lines w = let e = w.lines in let f = div-add-mod' (length lines) 63 in omega arith
 
--- the number fixes the answer of a call
-one_spool_answer : (a b : SpoolAnswer) → spool_numbers a ≡ spool_numbers b → a ≡ b
-one_spool_answer S.Read S.Read q = refl
-one_spool_answer S.Read (S.Refused s) q = absurd (refusal_positive s (sym (ap (λ (l : List ℕ). get_or l 0 0) q)))
-one_spool_answer (S.Refused r) S.Read q = absurd (refusal_positive r (ap (λ (l : List ℕ). get_or l 0 0) q))
-one_spool_answer (S.Refused r) (S.Refused s) q = ap S.Refused (one_refusal r s (ap (λ (l : List ℕ). get_or l 0 0) q))
+-- the number and the places fix the answer of a call
+one_spool_answer : (a b : Result (List PlainReading) Refusal) → spool_numbers a ≡ spool_numbers b → places_of a ≡ places_of b → a ≡ b
+one_spool_answer (Ok p) (Ok q) e f = ap Ok f
+one_spool_answer (Ok p) (Err s) e f = absurd (refusal_positive s (sym (ap (λ (l : List ℕ). get_or l 0 0) e)))
+one_spool_answer (Err r) (Ok q) e f = absurd (refusal_positive r (ap (λ (l : List ℕ). get_or l 0 0) e))
+one_spool_answer (Err r) (Err s) e f = ap Err (one_refusal r s (ap (λ (l : List ℕ). get_or l 0 0) e))
 
 -- what a line that is refused leaves
-refused_left : (w : List ℕ) (t : ℕ) (old : List ℕ) (r : PlainReading) (x : List ℕ) → (r.answer ≡ 0 → ⊥) → Reads w t Any old (plain_numbers r) x
+refused_left : (w : List ℕ) (t : ℕ) (old : List ℕ) (r : PlainReading) (x : List ℕ) → (r.answer ≡ 0 → ⊥) → Reads w t None old (plain_numbers r) x
     → (r ≡ record { answer = r.answer; distance = 0; number = 0; first = 0; last = 0 }) × (x ≡ old)
 unfolding Reads
 refused_left w t old r x d p = left r.answer d p.1
@@ -61,7 +60,7 @@ module _ (lines : List ℕ) (t : ℕ) (old : List ℕ) where
       n = line_count lines
 
       one : (i : ℕ) → i < n → (place i x ≡ place i y) × (part 63 i x.output ≡ part 63 i y.output)
-      one i h = one_plain_reading (part 63 i lines) t Any (part 63 i old) (place i x) (place i y) (part 63 i x.output) (part 63 i y.output) (p.reads i h) (q.reads i h)
+      one i h = one_plain_reading (part 63 i lines) t None (part 63 i old) (place i x) (place i y) (part 63 i x.output) (part 63 i y.output) (p.reads i h) (q.reads i h)
 
       at : (i : ℕ) → place i x ≡ place i y
       at i = ⊎_elim (λ (h : n ≤ i). p.past i h ∙ sym (q.past i h)) (λ (h : i < n). (one i h).0) (le_or_lt n i)
@@ -80,9 +79,12 @@ module _ (lines : List ℕ) (t : ℕ) (old : List ℕ) where
       one_result (spool_tests (length lines) (length old)) (SpooledAs lines t old) 0
       (λ passed f g x y a b. (a.0 ∙ sym b.0, one_each passed.0 passed.1.0 x y a.1 b.1)) (left_of no_places old)
 
-  -- and so are any two answers of the call
-  pub one_spool : (a b : SpoolAnswer) (x y : Left) → Spools lines t old (spool_numbers a) x → Spools lines t old (spool_numbers b) y → (a ≡ b) × (x ≡ y)
-  one_spool a b x y p q = let e = same_spool (spool_numbers a) (spool_numbers b) x y p q in (one_spool_answer a b e.0, e.1)
+  -- and so are any two answers of the call, and what lies in their outputs
+  pub one_spool : (a b : Result (List PlainReading) Refusal) (x y : List ℕ) → Spools lines t old (spool_numbers a) (left_of (places_of a) x)
+      → Spools lines t old (spool_numbers b) (left_of (places_of b) y) → (a ≡ b) × (x ≡ y)
+  one_spool a b x y p q =
+      let e = same_spool (spool_numbers a) (spool_numbers b) (left_of (places_of a) x) (left_of (places_of b) y) p q in
+      (one_spool_answer a b e.0 (ap (λ (l : Left). l.places) e.1), ap (λ (l : Left). l.output) e.1)
 
   -- ---- where the call is not refused
 
@@ -96,10 +98,10 @@ module _ (lines : List ℕ) (t : ℕ) (old : List ℕ) where
     each = spools.1.1
 
     -- each line's answer, and each 63 bytes of output, equal what reading them one by one gives
-    pub one_by_one : (i : ℕ) → i < line_count lines → (r : LineReading) (x : List ℕ) → Reads (part 63 i lines) t Any (part 63 i old) (reading_numbers r) x
+    pub one_by_one : (i : ℕ) → i < line_count lines → (r : Result Reading Refusal) (x : List ℕ) → Reads (part 63 i lines) t None (part 63 i old) (reading_numbers r) x
         → (plain_numbers (place i left) ≡ reading_numbers r) × (part 63 i left.output ≡ x)
     one_by_one i h r x reads =
-        same_result (part 63 i lines) t Any (part 63 i old) (plain_numbers (place i left)) (reading_numbers r) (part 63 i left.output) x (each.reads i h) reads
+        same_result (part 63 i lines) t None (part 63 i old) (plain_numbers (place i left)) (reading_numbers r) (part 63 i left.output) x (each.reads i h) reads
 
     -- a refused line leaves its own 63 bytes alone, and its place holds nothing but the refusal; every other line is read all the same, as `one_by_one` says
     pub refused_line : (i : ℕ) → i < line_count lines → ((place i left).answer ≡ 0 → ⊥)
@@ -118,16 +120,16 @@ module _ (lines : List ℕ) (t : ℕ) (old : List ℕ) where
       room_long : length (part 63 i old) ≡ 63
       room_long = part_long 63 (line_count lines) i old h (met.1.0 ∙ lines_long lines met.0)
 
-      refused_as : (n : ℕ) (x : List ℕ) → Reads (part 63 i lines) t Any (part 63 i old) (n ∷ 0 ∷ 0 ∷ 0 ∷ 0 ∷ []) x → (place i left).answer ≡ n
+      refused_as : (n : ℕ) (x : List ℕ) → Reads (part 63 i lines) t None (part 63 i old) (n ∷ 0 ∷ 0 ∷ 0 ∷ 0 ∷ []) x → (place i left).answer ≡ n
       refused_as n x reads =
           ap (λ (l : List ℕ). get_or l 0 0)
-          (same_result (part 63 i lines) t Any (part 63 i old) (plain_numbers (place i left)) (n ∷ 0 ∷ 0 ∷ 0 ∷ 0 ∷ []) (part 63 i left.output) x (each.reads i h) reads).0
+          (same_result (part 63 i lines) t None (part 63 i old) (plain_numbers (place i left)) (n ∷ 0 ∷ 0 ∷ 0 ∷ 0 ∷ []) (part 63 i left.output) x (each.reads i h) reads).0
 
       pub value_stays : (Characters (part 63 i lines) → ⊥) → (place i left).answer ≡ 2
-      value_stays d = refused_as 2 (part 63 i old) (line.refused (part 63 i lines) t Any (part 63 i old) 2 (line_long then room_long then denied d))
+      value_stays d = refused_as 2 (part 63 i old) (line.refused (part 63 i lines) t None (part 63 i old) 2 (line_long then room_long then denied d))
 
       pub radius_stays : Characters (part 63 i lines) → 5 < t → (place i left).answer ≡ 3
-      radius_stays c d = refused_as 3 (part 63 i old) (line.refused (part 63 i lines) t Any (part 63 i old) 3 (line_long then room_long then c then denied (λ s. omega arith)))
+      radius_stays c d = refused_as 3 (part 63 i old) (line.refused (part 63 i lines) t None (part 63 i old) 3 (line_long then room_long then c then denied (λ s. omega arith)))
 
   -- ---- where it is refused
 

@@ -1,22 +1,15 @@
 -- The ways out of reading a spool.
-use mathlib.Core.Path.{◌≡◌, refl, sym, ap, ◌∙◌, subst}
+use mathlib.Core.Path.{◌≡◌, refl}
 use mathlib.Core.List.{List, [], ◌∷◌}
 use Prim.Native.Nat.{ℕ, ◌/◌, ◌%◌, ◌<◌, ◌≤◌}
 use native.Mathlib.Omega.{arith}
 use lib.ListN.{length}
-use Rattle.refusal.specs.declared.Refusal.{Refusal}
 use Rattle.refusal.specs.declared.Refusal.TheVariants.{InputLength, OutputLength}
 use Rattle.refusal.specs.Promise.{Test}
 use Rattle.refusal.specs.Number.{number_of}
 use Rattle.refusal.proofs.Ladder.{Met, FailsAt, answer_at, refuses, succeeds, denied, ◌then◌}
 use Rattle.line.specs.declared.PlainReading.{PlainReading}
-use Rattle.spool.specs.declared.SpoolAnswer.TheVariants as S
-use Rattle.spool.specs.declared.Spooled.{Spooled}
-use Rattle.spool.specs.Promises.{spool_numbers, no_places, Left, left_of, refused_as, Whole, line_count, Each, spool_tests, SpooledAs, Spools}
-
--- 255 places that tell nothing, and the refusal
-pub nothing_read : (r : Refusal) (places : List PlainReading) → places ≡ no_places → record { places = places; answer = S.Refused r } ≡ refused_as r
-nothing_read r places e = ap (λ (p : List PlainReading). record { places = p; answer = S.Refused r }) e
+use Rattle.spool.specs.Promises.{no_places, Left, left_of, line_count, Each, spool_tests, SpooledAs, Spools}
 
 module _ (lines : List ℕ) (t : ℕ) (old : List ℕ) where
   abbrev tests : List Test
@@ -30,22 +23,16 @@ module _ (lines : List ℕ) (t : ℕ) (old : List ℕ) where
   unfolding Spools
   read left m e = succeeds (SpooledAs lines t old) 0 (left_of no_places old) tests [] left m (refl, e)
 
-  -- ---- the returns of the code, each with what the call that reads nothing gives
+  -- ---- the returns of the code
 
-  module _ (s : Spooled) where
-    as-given : (r : Refusal) → s ≡ refused_as r → Spools lines t old (number_of r ∷ []) (left_of no_places old)
-        → Spools lines t old (spool_numbers s.answer) (left_of s.places old)
-    as-given r e p = subst (λ (k : Spooled). Spools lines t old (spool_numbers k.answer) (left_of k.places old)) (sym e) p
+  pub no_whole : (length lines % 63 ≡ 0 → ⊥) → Spools lines t old (number_of InputLength ∷ []) (left_of no_places old)
+  no_whole d = refused 0 (denied (λ w. d w.lines))
 
-    pub no_whole : (length lines % 63 ≡ 0 → ⊥) → s ≡ refused_as InputLength → Spools lines t old (spool_numbers s.answer) (left_of s.places old)
-    no_whole d e = as-given InputLength e (refused 0 (denied (λ w. d w.lines)))
+  pub too_many : 16065 < length lines → Spools lines t old (number_of InputLength ∷ []) (left_of no_places old)
+  too_many d = refused 0 (denied (λ w. let f = w.few in omega arith))
 
-    pub too_many : 16065 < length lines → s ≡ refused_as InputLength → Spools lines t old (spool_numbers s.answer) (left_of s.places old)
-    too_many d e = as-given InputLength e (refused 0 (denied (λ w. let f = w.few in omega arith)))
-
-    pub other_room : length lines % 63 ≡ 0 → length lines ≤ 16065 → (length old ≡ length lines → ⊥) → s ≡ refused_as OutputLength
-        → Spools lines t old (spool_numbers s.answer) (left_of s.places old)
-    other_room whole few d e = as-given OutputLength e (refused 1 (record { lines = whole; few = few } then denied d))
+  pub other_room : length lines % 63 ≡ 0 → length lines ≤ 16065 → (length old ≡ length lines → ⊥) → Spools lines t old (number_of OutputLength ∷ []) (left_of no_places old)
+  other_room whole few d = refused 1 (record { lines = whole; few = few } then denied d)
 
   pub spooled : length lines % 63 ≡ 0 → length lines ≤ 16065 → length old ≡ length lines → (places : List PlainReading) (new : List ℕ)
       → Each lines t old (length lines / 63) (left_of places new) → Spools lines t old (0 ∷ []) (left_of places new)

@@ -1,21 +1,17 @@
 -- What reading a spool promises: each line's answer and each 63 bytes of output are what reading that line by itself gives.
-use Rattle.std.specs.Prelude.{◌≡◌, List, [], ◌∷◌, ℕ, ◌/◌, ◌%◌, ◌<◌, ◌≤◌, length, get_or, replicate}
+use Rattle.std.specs.Prelude.{◌≡◌, List, [], ◌∷◌, ℕ, ◌/◌, ◌%◌, ◌<◌, ◌≤◌, length, get_or, replicate, None, Result, Ok, Err}
 use Rattle.numbers.specs.Parts.{part}
 use Rattle.refusal.specs.declared.Refusal.{Refusal}
 use Rattle.refusal.specs.declared.Refusal.TheVariants.{InputLength, OutputLength}
 use Rattle.refusal.specs.Number.{number_of}
 use Rattle.refusal.specs.Promise.{Test, ◌else◌, Promise}
-use Rattle.line.specs.declared.Wanted.TheVariants.{Any}
 use Rattle.line.specs.declared.PlainReading.{PlainReading}
 use Rattle.line.specs.Promises.{plain_numbers, Reads}
-use Rattle.spool.specs.declared.SpoolAnswer.{SpoolAnswer}
-use Rattle.spool.specs.declared.SpoolAnswer.TheVariants as S
-use Rattle.spool.specs.declared.Spooled.{Spooled}
 
 -- the number of the call's answer
-abbrev pub spool_numbers : SpoolAnswer → List ℕ
-spool_numbers S.Read = 0 ∷ []
-spool_numbers (S.Refused r) = number_of r ∷ []
+abbrev pub spool_numbers : Result (List PlainReading) Refusal → List ℕ
+spool_numbers (Ok p) = 0 ∷ []
+spool_numbers (Err r) = number_of r ∷ []
 
 -- a place that holds only zeros, and 255 of them
 abbrev pub no_place : PlainReading
@@ -23,6 +19,11 @@ no_place = record { answer = 0; distance = 0; number = 0; first = 0; last = 0 }
 
 abbrev pub no_places : List PlainReading
 no_places = replicate 255 no_place
+
+-- the places of an answer: in a refusal they tell nothing
+abbrev pub places_of : Result (List PlainReading) Refusal → List PlainReading
+places_of (Ok p) = p
+places_of (Err r) = no_places
 
 -- what a call leaves: the places and the output
 pub record Left : Type 0 where
@@ -40,7 +41,7 @@ place i left = get_or left.places i no_place
 pub record Each (lines : List ℕ) (t : ℕ) (old : List ℕ) (n : ℕ) (left : Left) : Type 0 where
   pub many : length left.places ≡ 255
   pub long : length left.output ≡ length old
-  pub reads : (i : ℕ) → i < n → Reads (part 63 i lines) t Any (part 63 i old) (plain_numbers (place i left)) (part 63 i left.output)
+  pub reads : (i : ℕ) → i < n → Reads (part 63 i lines) t None (part 63 i old) (plain_numbers (place i left)) (part 63 i left.output)
   pub past : (i : ℕ) → n ≤ i → place i left ≡ no_place
 
 -- whole lines, at most 255
@@ -65,7 +66,3 @@ SpooledAs lines t old fields left = (fields ≡ []) × Each lines t old (line_co
 unfoldable pub Spools : List ℕ → ℕ → List ℕ → List ℕ → Left → Type 0
 Spools lines t old numbers left =
     Promise (spool_tests (length lines) (length old)) (SpooledAs lines t old) 0 (left_of no_places old) numbers left
-
--- what a call that reads nothing gives
-abbrev pub refused_as : Refusal → Spooled
-refused_as r = record { places = no_places; answer = S.Refused r }

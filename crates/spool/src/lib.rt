@@ -1,12 +1,11 @@
 // Reading a spool: up to 255 lines in one call, each as if it were read by itself.
 #![tactic(auto)]
 
-ghost use Rattle.std.specs.Prelude.{◌≡◌, ◌*◌, ◌≤◌, length};
-ghost use Rattle.line.specs.declared.Wanted.TheVariants.{Any};
+ghost use Rattle.std.specs.Prelude.{◌≡◌, ◌*◌, ◌≤◌, length, None};
 ghost use Rattle.line.specs.Promises.{plain_numbers, Reads};
-ghost use Rattle.spool.specs.Promises.{no_places, spool_numbers, left_of, refused_as, Each, Spools};
+ghost use Rattle.spool.specs.Promises.{spool_numbers, places_of, left_of, Each, Spools};
 
-use line::{PlainReading, Wanted};
+use line::PlainReading;
 use refusal::Refusal;
 
 // The characters of a line.
@@ -18,38 +17,34 @@ pub const PLACES: usize = 255;
 // The characters of that spool.
 const SPOOL: usize = 16065;
 
-// That the lines were read, each as its place tells; or why none was.
-#[derive(Clone, Copy)]
-pub enum SpoolAnswer {
-    Read,
-    Refused(Refusal),
-}
-
-// What reading each line answers, line by line, with zeros past the last line and in a refusal; and the answer of the call.
-#[derive(Clone, Copy)]
-pub struct Spooled {
-    pub places: [PlainReading; PLACES],
-    pub answer: SpoolAnswer,
-}
+// A place that tells nothing.
+const NO_READING: PlainReading = PlainReading {
+    answer: 0,
+    distance: 0,
+    number: 0,
+    first: 0,
+    last: 0,
+};
 
 // Reads a spool: each line with the radius and no wanted number, into its own 63 bytes of the output. A line that is refused leaves them and stops no other.
-pub fn read_spool(lines: &[u8], radius: u8, output: &mut [u8]) -> Spooled
-    ensures { Spools lines.now radius output.old (spool_numbers result.answer) (left_of result.places output.new) }
+// What reading each line answers stands in its place, and zeros past the last line.
+pub fn read_spool(
+    lines: &[u8],
+    radius: u8,
+    output: &mut [u8],
+) -> Result<[PlainReading; PLACES], Refusal>
+    ensures { Spools lines.now radius output.old (spool_numbers result) (left_of (places_of result) output.new) }
 {
     if lines.len() % LINE != 0 {
-        return refused(Refusal::InputLength);
+        return Err(Refusal::InputLength);
     }
     if lines.len() > SPOOL {
-        return refused(Refusal::InputLength);
+        return Err(Refusal::InputLength);
     }
     if output.len() != lines.len() {
-        return refused(Refusal::OutputLength);
+        return Err(Refusal::OutputLength);
     }
-    let places = read_each(lines, radius, output, lines.len() / LINE);
-    Spooled {
-        places: places,
-        answer: SpoolAnswer::Read,
-    }
+    Ok(read_each(lines, radius, output, lines.len() / LINE))
 }
 
 // Reads n lines, each into its own 63 bytes.
@@ -59,44 +54,19 @@ fn read_each(lines: &[u8], radius: u8, output: &mut [u8], n: usize) -> [PlainRea
     requires output_len { length output.old ≡ n * 63 }
     ensures { Each lines.now radius output.old n (left_of result output.new) }
 {
-    let mut places = no_places();
-    let mut i: usize = 0;
-    while i < n {
+    let mut places = [NO_READING; PLACES];
+    // a range, and no zip of chunks: each turn writes its own 63 bytes of the output, and the promise names them by the index
+    for i in 0..n {
         let start = i * LINE;
         let end = start + LINE;
         places[i] = read_one(&lines[start..end], radius, &mut output[start..end]);
-        i += 1;
     }
     places
 }
 
 // Reads one line.
 fn read_one(line: &[u8], radius: u8, output: &mut [u8]) -> PlainReading
-    ensures { Reads line.now radius Any output.old (plain_numbers result) output.new }
+    ensures { Reads line.now radius None output.old (plain_numbers result) output.new }
 {
-    line::plain(line::read_line(line, radius, Wanted::Any, output))
-}
-
-// A call that reads nothing.
-fn refused(why: Refusal) -> Spooled
-    ensures { result ≡ refused_as why }
-{
-    Spooled {
-        places: no_places(),
-        answer: SpoolAnswer::Refused(why),
-    }
-}
-
-// Places that tell nothing.
-fn no_places() -> [PlainReading; PLACES]
-    ensures { result ≡ no_places }
-{
-    let none = PlainReading {
-        answer: 0,
-        distance: 0,
-        number: 0,
-        first: 0,
-        last: 0,
-    };
-    [none; PLACES]
+    line::plain(line::read_line(line, radius, None, output))
 }

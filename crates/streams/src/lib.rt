@@ -32,6 +32,7 @@ pub fn read_full<R: Read>(from: &mut R, bytes: &mut [u8]) -> io::Result<usize>
     ensures ends { IfOk result (λ n. n < length bytes.new → IsAtEnd (R.remaining from.new)) }
 {
     let mut done = 0;
+    // a while, since the reader tells how far each turn goes: no iterator counts that
     while done < bytes.len() {
         let n = from.read(&mut bytes[done..])?;
         if n == 0 {

@@ -1,13 +1,14 @@
 -- What the loops of the sums do, a turn and a way out at a time, over plain variables.
 use mathlib.Core.Path.{◌≡◌, refl, sym, ap, ap₂, ◌∙◌, subst}
 use mathlib.Core.Logic.{⊎_elim}
-use mathlib.Core.List.{List}
-use Prim.Native.Nat.{ℕ, zero, suc, ◌+◌, ◌-◌, ◌*◌, ◌/◌, ◌%◌, ◌^◌, ◌<◌, ◌≤◌}
+use mathlib.Core.List.{List, ◌++◌}
+use Prim.Native.Nat.{min, ℕ, zero, suc, ◌+◌, ◌-◌, ◌*◌, ◌/◌, ◌%◌, ◌^◌, ◌<◌, ◌≤◌}
 use native.Mathlib.Nat.{add-zero, add-suc, suc-add, zero-add, pow-suc, le_trans, le_of_eq}
 use native.Mathlib.Omega.{arith}
 use borrow.Author.Count.{below_none, below_more}
-use lib.ListN.{length, get_or, set, length-set}
+use lib.ListN.{length, get_or, set, take, drop, replicate, length-set, length-append, get_or-append, get_or-eq_default}
 use lib.Seq.{get_or-set_same, get_or-set_other}
+use Rattle.std.proofs.lemmas.List.{length-take-le, length-drop, get_or-take, get_or-drop, get_or-append_right, get_or-replicate}
 use Rattle.numbers.proofs.Cases.{le_or_lt, same_or_not}
 use Rattle.lanes.specs.Lanes.{pack, lane}
 use Rattle.lanes.proofs.Laws.{lane_zero, lane_suc, pack_same, pack_lt, lane_pack}
@@ -23,27 +24,29 @@ use Rattle.sums.proofs.Holding.{eleven_is}
 
 -- ---- a word filled up to 63 characters
 
-pub record FilledTo (w v : List ℕ) (a : ℕ) : Type 0 where
-  pub most : a ≤ 63
-  pub long : length v ≡ 63
-  pub passed : (b : ℕ) → b < a → get_or v b 0 ≡ get_or w b 0
-
-pub filled_none : (w v : List ℕ) → length v ≡ 63 → FilledTo w v 0
-filled_none w v h = record { most = omega arith; long = h; passed = below_none (λ b. get_or v b 0 ≡ get_or w b 0) }
-
--- an address is read, or past the end it is 0
-pub filled_again : (w v : List ℕ) (a c : ℕ) → FilledTo w v a → a < 63 → c ≡ get_or w a 0 → FilledTo w (set v a c) (a + 1)
-filled_again w v a c f h e =
+-- what is copied, and the zeros after it
+pub filled_copied : (w v z : List ℕ) (n : ℕ) → n ≡ min (length w) 63 → v ≡ take n w → z ≡ replicate 63 0 → Filled w (v ++ drop n z)
+filled_copied w v z n m e f =
+    rw (e, f)
     record {
-      most = omega arith;
-      long = length-set v a c ∙ f.long;
-      passed = below_more (λ b. get_or (set v a c) b 0 ≡ get_or w b 0) a
-          (λ b l. get_or-set_other v a b c 0 (λ q. omega arith) ∙ f.passed b l)
-          (get_or-set_same v a c 0 (let l = f.long in omega arith) ∙ e);
+      long =
+          length-append (take n w) (drop n (replicate 63 0)) ∙ ap₂ (λ (a b : ℕ). a + b) copied (length-drop n (replicate 63 0)) ∙ (omega arith);
+      same = λ a h.
+          ⊎_elim (λ (g : n ≤ a). past a h g)
+          (λ (g : a < n).
+          get_or-append (take n w) (drop n (replicate 63 0)) 0 a (omega (arith, copied)) ∙ get_or-take n w a 0 g)
+          (le_or_lt n a);
     }
+  where
+    copied : length (take n w) ≡ n
+    copied = length-take-le n w (omega arith)
 
-pub filled_all : (w v : List ℕ) (a : ℕ) → FilledTo w v a → 63 ≤ a → Filled w v
-filled_all w v a f h = record { long = f.long; same = λ b l. f.passed b (omega arith) }
+    past : (a : ℕ) → a < 63 → n ≤ a → get_or (take n w ++ drop n (replicate 63 0)) a 0 ≡ get_or w a 0
+    past a h g =
+        get_or-append_right (take n w) (drop n (replicate 63 0)) n a 0 copied g
+        ∙ get_or-drop n (replicate 63 0) (a - n) 0
+        ∙ get_or-replicate 63 (n + (a - n)) 0 0 (omega arith)
+        ∙ sym (get_or-eq_default w 0 (omega arith))
 
 -- ---- the sums put in their places
 

@@ -31,7 +31,7 @@ pub fn eleven_sums(word: &[u8]) -> Sums
     let outer = sums.outer;
     Sums {
         first: outer % FIVE_LANES
-            + (sums.middle % 64) as u64 * FIVE_LANES
+            + u64::from(sums.middle % 64) * FIVE_LANES
             + outer / FIVE_LANES % FOUR_LANES * SIX_LANES,
         last: (outer / NINE_LANES % 64) as u8,
     }
@@ -45,11 +45,9 @@ pub fn power_sums(word: &[u8]) -> [u8; 11]
     let mut p = packed.outer;
     let mut sums = [0u8; 11];
     sums[5] = packed.middle;
-    let mut k: usize = 0;
-    while k < 10 {
+    for k in 0..10 {
         sums[k + k / 5] = (p % 64) as u8;
-        p = p / 64;
-        k += 1;
+        p /= 64;
     }
     sums
 }
@@ -86,11 +84,8 @@ fn filled(word: &[u8]) -> [u8; 63]
     ensures { Filled word.now result }
 {
     let mut v = [0u8; 63];
-    let mut a: usize = 0;
-    while a < 63 {
-        v[a] = eights::byte_at(word, a);
-        a += 1;
-    }
+    let n = word.len().min(63);
+    v[..n].copy_from_slice(&word[..n]);
     v
 }
 
@@ -99,10 +94,8 @@ pub fn packed(sums: [u8; 11]) -> Sums
     ensures { eleven result ≡ lowered sums }
 {
     let mut p: u64 = 0;
-    let mut k: usize = 10;
-    while k > 0 {
-        k -= 1;
-        p = p * 64 + (sums[k] % 64) as u64;
+    for k in (0..10).rev() {
+        p = p * 64 + u64::from(sums[k] % 64);
     }
     Sums {
         first: p,
@@ -116,11 +109,9 @@ pub fn unpacked(sums: Sums) -> [u8; 11]
 {
     let mut s = [0u8; 11];
     let mut p = sums.first;
-    let mut k: usize = 0;
-    while k < 10 {
+    for k in 0..10 {
         s[k] = (p % 64) as u8;
-        p = p / 64;
-        k += 1;
+        p /= 64;
     }
     s[10] = sums.last % 64;
     s

@@ -1,2 +1,3 @@
--- An entry of a table of terms.
+-- The table of terms, and the powers that its entries are computed from.
+pub mod Powers
 pub mod Entries

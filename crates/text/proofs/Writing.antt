@@ -77,48 +77,36 @@ number_more old mid new at next last n h p q = rw (decimal_more n h) (puts_then 
 pub field_text : (old mid new : List ℕ) (at next last n : ℕ) → Puts old mid at next (32 ∷ []) → Puts mid new next last (decimal n) → Puts old new at last (32 ∷ decimal n)
 field_text old mid new at next last n p q = puts_then p q
 
--- ---- a word, byte by byte
+-- ---- a word, byte by byte: the first i are put
 
-pub record WordTo (word old out : List ℕ) (at next i : ℕ) : Type 0 where
-  pub most : i ≤ length word
-  pub puts : Puts old out at next (take i word)
+pub word_more : (word old out new : List ℕ) (at next last i : ℕ) → Puts old out at next (take i word) → i < length word → Puts out new next last (get_or word i 0 ∷ [])
+    → Puts old new at last (take (i + 1) word)
+word_more word old out new at next last i p h q = rw (add-one i, take-suc word i 0 h) (puts_then p q)
 
-pub word_none : (word old : List ℕ) (at : ℕ) → WordTo word old old at at 0
-word_none word old at = record { most = omega arith; puts = puts_none old at }
-
-module _ (word old out : List ℕ) (at next i : ℕ) (t : WordTo word old out at next i) where
-  pub word_more : i < length word → (new : List ℕ) (last : ℕ) → Puts out new next last (get_or word i 0 ∷ []) → WordTo word old new at last (i + 1)
-  word_more h new last w =
-      record { most = omega arith; puts = rw (add-one i, take-suc word i 0 h) (puts_then t.puts w) }
-
-  pub word_all : length word ≤ i → Puts old out at next word
-  word_all h = rw (take_all i word h) at t.puts
+pub word_all : (word old out : List ℕ) (at next i : ℕ) → Puts old out at next (take i word) → length word ≤ i → Puts old out at next word
+word_all word old out at next i p h = rw (take_all i word h) at p
 
 -- ---- numbers after spaces, one by one
 
-pub record FieldsTo (ns old out : List ℕ) (at next i : ℕ) : Type 0 where
-  pub most : i ≤ length ns
-  pub puts : Puts old out at next (fields (take i ns))
-
-pub fields_none : (ns old : List ℕ) (at : ℕ) → FieldsTo ns old old at at 0
+pub fields_none : (old : List ℕ) (at : ℕ) → Puts old old at at (fields [])
 unfolding fields
-fields_none ns old at = record { most = omega arith; puts = puts_none old at }
+fields_none old at = puts_none old at
 
 one_field : (n : ℕ) → fields (n ∷ []) ≡ 32 ∷ decimal n
 unfolding fields
 one_field n = ap (λ (l : List ℕ). 32 ∷ l) (append-nil (decimal n))
 
-module _ (ns old out : List ℕ) (at next i : ℕ) (t : FieldsTo ns old out at next i) where
-  pub fields_more : i < length ns → (new : List ℕ) (last : ℕ) → Puts out new next last (32 ∷ decimal (get_or ns i 0)) → FieldsTo ns old new at last (i + 1)
-  fields_more h new last w =
-      let e : fields (take (i + 1) ns) ≡ fields (take i ns) ++ (32 ∷ decimal (get_or ns i 0)) =
-      ap fields (ap (λ (k : ℕ). take k ns) (add-one i) ∙ take-suc ns i 0 h) ∙ fields_append (take i ns) (get_or ns i 0 ∷ [])
-      ∙ ap (λ (l : List ℕ). fields (take i ns) ++ l) (one_field (get_or ns i 0))
-      in
-      record { most = omega arith; puts = rw e (puts_then t.puts w) }
+pub fields_more : (ns old out new : List ℕ) (at next last i : ℕ) → Puts old out at next (fields (take i ns)) → i < length ns → Puts out new next last (32 ∷ decimal (get_or ns i 0))
+    → Puts old new at last (fields (take (i + 1) ns))
+fields_more ns old out new at next last i p h q =
+    let e : fields (take (i + 1) ns) ≡ fields (take i ns) ++ (32 ∷ decimal (get_or ns i 0)) =
+    ap fields (ap (λ (k : ℕ). take k ns) (add-one i) ∙ take-suc ns i 0 h) ∙ fields_append (take i ns) (get_or ns i 0 ∷ [])
+    ∙ ap (λ (l : List ℕ). fields (take i ns) ++ l) (one_field (get_or ns i 0))
+    in
+    rw e (puts_then p q)
 
-  pub fields_all : length ns ≤ i → Puts old out at next (fields ns)
-  fields_all h = rw (take_all i ns h) at t.puts
+pub fields_all : (ns old out : List ℕ) (at next i : ℕ) → Puts old out at next (fields (take i ns)) → length ns ≤ i → Puts old out at next (fields ns)
+fields_all ns old out at next i p h = rw (take_all i ns h) at p
 
 -- ---- a line
 

@@ -1,4 +1,5 @@
 // Lines of text in a lent buffer: a word, and decimal numbers after single spaces. What does not fit is left out.
+// The buffer and the place in it go side by side: docs/PROMISES.md names put_line, put_word and put_byte by Writing.Puts.
 #![tactic(auto)]
 
 ghost use Rattle.std.specs.Prelude.{[], ◌∷◌};
@@ -11,7 +12,7 @@ pub fn put_line(out: &mut [u8], at: usize, word: &[u8], numbers: &[u16]) -> usiz
 {
     let a = put_word(out, at, word);
     let b = put_fields(out, a, numbers);
-    put_byte(out, b, 10)
+    put_byte(out, b, b'\n')
 }
 
 // Writes a word.
@@ -19,10 +20,8 @@ pub fn put_word(out: &mut [u8], at: usize, word: &[u8]) -> usize
     ensures { Puts out.old out.new at result word.now }
 {
     let mut next = at;
-    let mut i: usize = 0;
-    while i < word.len() {
-        next = put_byte(out, next, word[i]);
-        i += 1;
+    for x in word {
+        next = put_byte(out, next, *x);
     }
     next
 }
@@ -32,10 +31,8 @@ fn put_fields(out: &mut [u8], at: usize, numbers: &[u16]) -> usize
     ensures { Puts out.old out.new at result (fields numbers.now) }
 {
     let mut next = at;
-    let mut i: usize = 0;
-    while i < numbers.len() {
-        next = put_field(out, next, numbers[i]);
-        i += 1;
+    for n in numbers {
+        next = put_field(out, next, *n);
     }
     next
 }
@@ -44,7 +41,7 @@ fn put_fields(out: &mut [u8], at: usize, numbers: &[u16]) -> usize
 fn put_field(out: &mut [u8], at: usize, n: u16) -> usize
     ensures { Puts out.old out.new at result (32 ∷ decimal n) }
 {
-    let next = put_byte(out, at, 32);
+    let next = put_byte(out, at, b' ');
     put_number(out, next, n)
 }
 
@@ -53,10 +50,10 @@ fn put_number(out: &mut [u8], at: usize, n: u16) -> usize
     ensures { Puts out.old out.new at result (decimal n) }
 {
     if n < 10 {
-        return put_byte(out, at, 48 + n as u8);
+        return put_byte(out, at, b'0' + n as u8);
     }
     let next = put_number(out, at, n / 10);
-    put_byte(out, next, 48 + (n % 10) as u8)
+    put_byte(out, next, b'0' + (n % 10) as u8)
 }
 
 // Writes a byte, where there is room for one.

@@ -1,7 +1,6 @@
 // The tray program: reads a tray file from standard input, and prints its report.
 #![tactic(auto)]
 
-use report::Reported;
 use std::io;
 use std::io::Write;
 
@@ -10,7 +9,7 @@ fn main(rt: HostRuntime) -> io::Result<()> {
     let mut file = [0u8; report::LONGEST + 1];
     let n = streams::read_full(&mut rt.stdin(), &mut file)?;
     let mut text = [0u8; report::ROOM];
-    let Reported::Text { length } = report::report(&file[..n], &mut text) else {
+    let Ok(length) = report::report(&file[..n], &mut text) else {
         return Ok(());
     };
     rt.stdout().write_all(&text[..length])

@@ -1,16 +1,11 @@
--- `block::all_sevens` meets its contract. The invariant: the rows passed are at most 127.
-use borrow.Author.Rules.{rules}
-use Rattle.block.proofs.Loops.{sevens_none, sevens_more, sevens_fail, sevens_all}
+-- `block::all_sevens` meets its contract: the chain tests each row.
+use Rattle.std.proofs.Common.{rules, tests, leb}
+use Rattle.std.proofs.lemmas.Iterator.{YieldsList-from_slice}
+use Rattle.std.proofs.lemmas.Iterator.Search.{all_from_yields_List}
+use Rattle.block.proofs.Loops.{tells_sevens}
 use Rattle.block.proofs.all_sevens.Goals as goal
 
-pub loop-i-init : goal.loop-i-init
-loop-i-init c = search (sevens_none, rules)
-
-pub returns-then-given-i-gt127 : goal.returns-then-given-i-gt127
-returns-then-given-i-gt127 c = search (sevens_fail, rules)
-
-pub loop-i-preserved : goal.loop-i-preserved
-loop-i-preserved c = search (sevens_more, rules)
-
 pub returns : goal.returns
-returns c = search (sevens_all, rules)
+returns c =
+    tells_sevens _ _
+    (all_from_yields_List (λ x. leb x 127) _ _ _ c.all.ensures.ran (YieldsList-from_slice c.args.given.now (cc)) (λ x b q k. search (rules, tests)))

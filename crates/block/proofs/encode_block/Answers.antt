@@ -8,9 +8,6 @@ use Rattle.block.proofs.encode_block.Goals as goal
 pub returns-then-n-lt1 : goal.returns-then-n-lt1
 returns-then-n-lt1 c = refused _ _ 0 (denied (λ g. omega arith))
 
-pub returns-then-n-gt63 : goal.returns-then-n-gt63
-returns-then-n-gt63 c = refused _ _ 0 (denied (λ g. omega arith))
-
 pub returns-then-output-n : goal.returns-then-output-n
 returns-then-output-n c = refused _ _ 1 (search verdicts)
 

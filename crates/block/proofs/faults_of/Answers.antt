@@ -11,4 +11,4 @@ loop-i-preserved c = elim c.if-ones_of-eq1.branch [ then-ones_of-eq1 w ↦ searc
 pub returns : goal.returns
 returns c = let w = c.loop-i in
     let rows = c.args.rows.now in
-    counted_all rows w.i w.odd w.row w.columns (λ i. omega (arith, c.shared_slice_known-1.given i)) w.invariant (search rules)
+    counted_all rows w.i w.odd w.row w.columns (λ i. omega (arith, c.type_inv.rows i)) w.invariant (search rules)

@@ -9,9 +9,6 @@ use Rattle.block.proofs.read_block.Goals as goal
 pub returns-then-n-lt2 : goal.returns-then-n-lt2
 returns-then-n-lt2 c = refused _ _ 0 (denied (λ g. omega arith))
 
-pub returns-then-n-gt64 : goal.returns-then-n-gt64
-returns-then-n-gt64 c = refused _ _ 0 (denied (λ g. omega arith))
-
 pub returns-then-output-n : goal.returns-then-output-n
 returns-then-output-n c = refused _ _ 1 (search verdicts)
 
@@ -23,11 +20,11 @@ pub returns-then-distance-gt1 : goal.returns-then-distance-gt1
 returns-then-distance-gt1 c = let many : 1 < c.ones_of-distance.result = omega arith in
     refused _ _ 2 (search (many_columns, verdicts))
 
-pub bounds-output-row : goal.bounds-output-row
-bounds-output-row c = search row_inside
+pub bounds-output-faults : goal.bounds-output-faults
+bounds-output-faults c = search row_inside
 
-pub bounds-output-row-2 : goal.bounds-output-row-2
-bounds-output-row-2 c = search row_inside
+pub bounds-output-faults-2 : goal.bounds-output-faults-2
+bounds-output-faults-2 c = search row_inside
 
 pub returns : goal.returns
 returns c = let few : c.faults_of-faults.result.rows ≤ 1 = omega arith in

@@ -4,6 +4,3 @@ use Rattle.blots.proofs.last_set.Given as goal
 
 abbrev pub invariant-loop-a : goal.invariant-loop-a
 invariant-loop-a l = NoneFrom l.bytes l.a
-
-abbrev pub decreases-loop-a : goal.decreases-loop-a
-decreases-loop-a l = l.a

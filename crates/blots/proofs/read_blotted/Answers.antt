@@ -1,7 +1,7 @@
 -- `blots::read_blotted` meets its contract: each return is one way in which reading ends, in the order of the refusals.
 use borrow.Author.Rules.{rules}
 use Rattle.refusal.proofs.Ladder.{verdicts}
-use Rattle.line.proofs.Reading.{written, written_long}
+use Rattle.line.proofs.Ways.{written, written_long}
 use Rattle.blots.proofs.Finding.{none_before}
 use Rattle.blots.proofs.Reading.{refused, read, none_near, found_legible, first_byte, last_byte, count_byte, read_as}
 use Rattle.blots.proofs.read_blotted.Goals as goal
@@ -21,8 +21,8 @@ returns-then-not-all_low c = refused _ _ _ 3 (search verdicts)
 pub returns-then-not-marked : goal.returns-then-not-marked
 returns-then-not-marked c = refused _ _ _ 4 (search verdicts depth 9)
 
-pub returns-then-not-errors : goal.returns-then-not-errors
-returns-then-not-errors c = refused _ _ _ 5 (search (none_near, verdicts) depth 9)
+pub returns-in_default : goal.returns-in_default
+returns-in_default c = refused _ _ _ 5 (search (none_near, verdicts) depth 9)
 
 pub overflow_cast-result : goal.overflow_cast-result
 overflow_cast-result c = search (count_byte, rules)

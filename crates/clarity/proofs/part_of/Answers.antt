@@ -4,7 +4,7 @@ use Rattle.clarity.proofs.Tallying.{dark_adds, bright_adds}
 use Rattle.clarity.proofs.part_of.Goals as goal
 
 pub returns-then-c-threshold : goal.returns-then-c-threshold
-returns-then-c-threshold c = dark_adds _ _ _ c.if-c-threshold.true (search rules) c.square_of-square.ensures
+returns-then-c-threshold c = dark_adds _ _ _ _ c.if-c-threshold.true (search rules) c.from-value.ensures c.square_of-square.ensures
 
 pub returns : goal.returns
-returns c = bright_adds _ _ _ c.if-c-threshold.false (search rules) c.square_of-square.ensures
+returns c = bright_adds _ _ _ _ c.if-c-threshold.false (search rules) c.from-value.ensures c.square_of-square.ensures

@@ -6,7 +6,7 @@ use Rattle.clarity.proofs.Bounds.{byte_square}
 use Rattle.clarity.proofs.square_of.Goals as goal
 
 pub overflow_mul-result : goal.overflow_mul-result
-overflow_mul-result c = omega (arith, byte_square {x = c.args.c} (search rules))
+overflow_mul-result c = rw c.from-x.ensures (omega (arith, byte_square {x = c.args.c} (search rules)))
 
 pub returns : goal.returns
-returns c = (refl, byte_square {x = c.args.c} (search rules))
+returns c = rw c.from-x.ensures (refl, byte_square {x = c.args.c} (search rules))

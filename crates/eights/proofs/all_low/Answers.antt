@@ -6,11 +6,11 @@ use Rattle.eights.proofs.all_low.Goals as goal
 pub returns-then-n-lt8 : goal.returns-then-n-lt8
 returns-then-n-lt8 c = search (low_few, rules)
 
-pub loop-i-init : goal.loop-i-init
-loop-i-init c = search (low_start, rules)
+pub loop-k-init : goal.loop-k-init
+loop-k-init c = search (low_start, rules)
 
-pub loop-i-preserved : goal.loop-i-preserved
-loop-i-preserved c = search (low_again, rules)
+pub loop-k-preserved : goal.loop-k-preserved
+loop-k-preserved c = search (low_again, rules)
 
 pub returns : goal.returns
 returns c = search (low_all, rules)

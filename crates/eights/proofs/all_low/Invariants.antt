@@ -1,11 +1,7 @@
 -- `eights::all_low` meets its contract: the loop keeps that the eights met are below 64 just where the bytes passed and the last eight are.
-use Prim.Native.Nat.{◌-◌}
-use lib.ListN.{length}
+use Prim.Native.Nat.{◌*◌}
 use Rattle.eights.proofs.Loops.{LowTo}
 use Rattle.eights.proofs.all_low.Given as goal
 
-abbrev pub invariant-loop-i : goal.invariant-loop-i
-invariant-loop-i l = LowTo l.bytes l.i l.met
-
-abbrev pub decreases-loop-i : goal.decreases-loop-i
-decreases-loop-i l = length l.bytes - l.i
+abbrev pub invariant-loop-k : goal.invariant-loop-k
+invariant-loop-k l = LowTo l.bytes (8 * l.k) l.met

@@ -1,11 +1,7 @@
 -- `eights::xor_of` meets its contract: the loop keeps that the bytes of z sum to those passed.
-use Prim.Native.Nat.{◌-◌}
-use lib.ListN.{length}
+use Prim.Native.Nat.{◌*◌}
 use Rattle.eights.proofs.Loops.{XorTo}
 use Rattle.eights.proofs.xor_of.Given as goal
 
-abbrev pub invariant-loop-i : goal.invariant-loop-i
-invariant-loop-i l = XorTo l.bytes l.i l.z
-
-abbrev pub decreases-loop-i : goal.decreases-loop-i
-decreases-loop-i l = length l.bytes - l.i
+abbrev pub invariant-loop-k : goal.invariant-loop-k
+invariant-loop-k l = XorTo l.bytes (8 * l.k) l.z

@@ -1,4 +1,4 @@
--- `encoder::put_line` meets its contract: the checks with the word's power sums, and the marks, are written after its first 52 characters.
+-- `encoder::put_line` meets its contract: the line is copied over an output of 63 bytes, and over no other.
 use borrow.Author.Rules.{rules}
 use Rattle.encoder.proofs.Loops.{line_put, no_line_put}
 use Rattle.encoder.proofs.put_line.Goals as goal

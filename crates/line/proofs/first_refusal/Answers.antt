@@ -2,7 +2,7 @@
 use mathlib.Core.Path.{refl}
 use borrow.Author.Rules.{rules}
 use Rattle.refusal.proofs.Ladder.{verdicts}
-use Rattle.line.proofs.Reading.{refused_at, refused_last}
+use Rattle.line.proofs.Ways.{refused_at, refused_last}
 use Rattle.line.proofs.first_refusal.Goals as goal
 
 pub returns-then-word-ne63 : goal.returns-then-word-ne63

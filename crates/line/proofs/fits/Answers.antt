@@ -1,7 +1,7 @@
 -- `line::fits` meets its contract: each return is one of the tests before reading, in their order.
 use borrow.Author.Rules.{rules}
 use Rattle.refusal.proofs.Ladder.{verdicts}
-use Rattle.line.proofs.Reading.{unfit_word, unfit_room, unfit_characters, unfit_radius, fit_possible}
+use Rattle.line.proofs.Ways.{unfit_word, unfit_room, unfit_characters, unfit_radius, fit_possible}
 use Rattle.line.proofs.fits.Goals as goal
 
 pub returns-then-word-ne63 : goal.returns-then-word-ne63

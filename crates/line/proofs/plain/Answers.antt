@@ -1,8 +1,8 @@
 -- `line::plain` gives a reading's numbers: in each arm the struct has the fields of that case.
 use Rattle.line.proofs.plain.Goals as goal
 
-pub returns-in-Line : goal.returns-in-Line
-returns-in-Line c = simp c.in-Line.is
+pub returns-in-Ok : goal.returns-in-Ok
+returns-in-Ok c = simp c.in-Ok.is
 
-pub returns-in-Refused : goal.returns-in-Refused
-returns-in-Refused c = simp (c.number.ensures, c.in-Refused.is)
+pub returns-in-Err : goal.returns-in-Err
+returns-in-Err c = simp (c.number.ensures, c.in-Err.is)

@@ -1,7 +1,7 @@
 -- `line::read_line` meets its contract: what the tests before refuse is refused; then a line itself, one with another number, or what is answered for the nearest line.
 use borrow.Author.Rules.{rules}
 use Rattle.refusal.proofs.Ladder.{verdicts}
-use Rattle.line.proofs.Reading.{refused_before, word_long, room_long, itself_other, itself_read, all_long, mended_read, same_long, answered_long}
+use Rattle.line.proofs.Ways.{refused_before, word_long, room_long, itself_other, itself_read, all_long, mended_read, same_long, mended_long}
 use Rattle.line.proofs.read_line.Goals as goal
 
 pub returns-then-not-fits : goal.returns-then-not-fits
@@ -23,7 +23,7 @@ pub slice_bounds-without_errors-end : goal.slice_bounds-without_errors-end
 slice_bounds-without_errors-end c = search (all_long, word_long, rules)
 
 pub shape_of-output : goal.shape_of-output
-shape_of-output c = search (answered_long, rules)
+shape_of-output c = search (mended_long, verdicts, rules)
 
 pub returns : goal.returns
 returns c = search (mended_read, verdicts, rules)

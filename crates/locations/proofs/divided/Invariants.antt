@@ -4,6 +4,3 @@ use Rattle.locations.proofs.divided.Given as goal
 
 abbrev pub invariant-loop-k : goal.invariant-loop-k
 invariant-loop-k l = DividedTo l.p l.r l.quotient l.v l.k
-
-abbrev pub decreases-loop-k : goal.decreases-loop-k
-decreases-loop-k l = l.k

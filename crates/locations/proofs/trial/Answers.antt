@@ -1,16 +1,14 @@
--- `locations::trial` meets its contract: no element tried so far is a root.
-use borrow.Author.Rules.{rules}
-use Rattle.locations.proofs.Loops.{missed_none, missed_more, tried_here, tried_none}
+-- `locations::trial` meets its contract: the first element that divides with no remainder is a root.
+use mathlib.Core.Path.{◌≡◌}
+use Rattle.std.proofs.Common.{rules, tests}
+use Rattle.std.proofs.lemmas.Iterator.{first_from_Range}
+use Rattle.polynomial.specs.Polynomial.{poly_at}
+use Rattle.locations.proofs.Loops.{root_told, root_denied, tried_all}
 use Rattle.locations.proofs.trial.Goals as goal
 
-pub loop-x-init : goal.loop-x-init
-loop-x-init c = search (missed_none, rules)
-
-pub returns-then-tried-eq0 : goal.returns-then-tried-eq0
-returns-then-tried-eq0 c = search (tried_here, rules)
-
-pub loop-x-preserved : goal.loop-x-preserved
-loop-x-preserved c = search (missed_more, rules)
-
 pub returns : goal.returns
-returns c = search (tried_none, rules)
+returns c =
+    let p = c.args.p in
+    tried_all p c.find.result
+    (first_from_Range _ _ _ _ (λ x. poly_at p x ≡ 0) (λ x. poly_at p x ≡ 0 → ⊥) c.find.ensures.ran (λ x q k. search (root_told, rules, tests))
+    (λ x q k. search (root_denied, rules, tests)))

@@ -1,16 +1,14 @@
--- `matrix::pivot` meets its contract: the rows passed have 0 in the column.
-use borrow.Author.Rules.{rules}
-use Rattle.matrix.proofs.Turns.{passed_none, passed_more, pivot_here, pivot_none}
+-- `matrix::pivot` meets its contract: the first row that has not 0 in the column is found.
+use mathlib.Core.Path.{◌≡◌}
+use Rattle.std.proofs.Common.{rules, tests}
+use Rattle.std.proofs.lemmas.Iterator.{first_from_Range}
+use Rattle.matrix.specs.System.{at}
+use Rattle.matrix.proofs.Turns.{pivot_found}
 use Rattle.matrix.proofs.pivot.Goals as goal
 
-pub loop-i-init : goal.loop-i-init
-loop-i-init c = search (passed_none, rules)
-
-pub returns-then-m-i-ne0 : goal.returns-then-m-i-ne0
-returns-then-m-i-ne0 c = search (pivot_here, rules)
-
-pub loop-i-preserved : goal.loop-i-preserved
-loop-i-preserved c = search (passed_more, rules)
-
 pub returns : goal.returns
-returns c = search (pivot_none, rules)
+returns c =
+    let m = c.args.m in
+    let t = c.args.t in
+    pivot_found m t c.args.n c.find.result
+    (first_from_Range _ _ _ _ (λ i. at m i t ≡ 0 → ⊥) (λ i. at m i t ≡ 0) c.find.ensures.ran (λ x q k. search (rules, tests)) (λ x q k. search (rules, tests)))

@@ -3,11 +3,11 @@ use borrow.Author.Rules.{rules}
 use Rattle.matrix.proofs.Turns.{over_none, over_again, over_all}
 use Rattle.matrix.proofs.row_over.Goals as goal
 
-pub loop-k-init : goal.loop-k-init
-loop-k-init c = search (over_none, rules)
+pub loop-x-init : goal.loop-x-init
+loop-x-init c = search (over_none, rules)
 
-pub loop-k-preserved : goal.loop-k-preserved
-loop-k-preserved c = search (over_again, rules)
+pub loop-x-preserved : goal.loop-x-preserved
+loop-x-preserved c = search (over_again, rules)
 
 pub returns : goal.returns
 returns c = search (over_all, rules)

@@ -1,17 +1,15 @@
--- `mender::elements_to` meets its contract: the sums passed are elements.
+-- `mender::elements_to` meets its contract: each of the first c sums is looked at.
 use borrow.Author.Rules.{rules}
-use borrow.Author.Count.{below_none}
-use Rattle.mender.proofs.Loops.{elements_over, elements_again, elements_all}
+use borrow.Author.Tests.{tests}
+use lib.Dec.{leb}
+use lib.ListN.{take}
+use native.Mathlib.Omega.{arith}
+use Rattle.std.proofs.lemmas.Grind.{common_steps}
+use Rattle.std.proofs.lemmas.Iterator.{YieldsList-from_slice}
+use Rattle.std.proofs.lemmas.Iterator.Search.{all_from_yields_List}
+use Rattle.mender.proofs.Loops.{elements_are}
 use Rattle.mender.proofs.elements_to.Goals as goal
 
-pub loop-k-init : goal.loop-k-init
-loop-k-init c = search (below_none, rules)
-
-pub returns-then-sums-k-gt63 : goal.returns-then-sums-k-gt63
-returns-then-sums-k-gt63 c = search (elements_over, rules)
-
-pub loop-k-preserved : goal.loop-k-preserved
-loop-k-preserved c = search (elements_again, rules)
-
 pub returns : goal.returns
-returns c = search (elements_all, rules)
+returns c = elements_are _ _ _ (search rules)
+    (all_from_yields_List {all = take c.args.c c.args.sums} (λ x. leb x 63) _ _ _ c.all.ensures.ran (YieldsList-from_slice _ (grind (arith, common_steps))) (λ x b q k. search (rules, tests)))

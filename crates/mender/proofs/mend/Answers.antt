@@ -1,6 +1,6 @@
 -- `mender::mend` meets its contract: c counts up to 11, e up to half of it, and sums that are no elements have no word.
 use borrow.Author.Rules.{rules}
-use borrow.Author.Tests.{not-true, not-false}
+use borrow.Author.Tests.{not-true}
 use Rattle.mender.proofs.Repairing.{mend_refused, mend_found}
 use Rattle.mender.proofs.Finding.{mended_bounds}
 use Rattle.mender.proofs.mend.Goals as goal
@@ -12,4 +12,4 @@ pub find-requires : goal.find-requires
 find-requires c = search (mended_bounds, rules)
 
 pub returns : goal.returns
-returns c = search (mend_found, not-false, rules)
+returns c = search (mend_found, rules)

@@ -1,7 +1,6 @@
 -- `mender::repaired` meets its contract: each return is one way in which the repair ends.
 use borrow.Author.Rules.{rules}
-use borrow.Author.Tests.{not-true, not-false}
-use Rattle.mender.proofs.Repairing.{repairs_none, one_inside, address_fits, repairs_one, repairs_not, repairs_more}
+use Rattle.mender.proofs.Repairing.{repairs_none, one_inside, address_fits, repairs_one, repairs_more}
 use Rattle.mender.proofs.repaired.Goals as goal
 
 pub returns-then-all_zero : goal.returns-then-all_zero
@@ -13,11 +12,8 @@ changed-mended-requires c = search (one_inside, rules)
 pub overflow_cast-address : goal.overflow_cast-address
 overflow_cast-address c = search (address_fits, rules)
 
-pub returns-then-one : goal.returns-then-one
-returns-then-one c = search (repairs_one, rules)
-
-pub returns-then-not-errors : goal.returns-then-not-errors
-returns-then-not-errors c = search (repairs_not, not-true, rules)
+pub returns-in-Some : goal.returns-in-Some
+returns-in-Some c = search (repairs_one, rules)
 
 pub returns : goal.returns
-returns c = search (repairs_more, not-false, rules)
+returns c = search (repairs_more, rules)

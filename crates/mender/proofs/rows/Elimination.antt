@@ -19,7 +19,7 @@ use Rattle.field.proofs.Laws
 use Rattle.numbers.proofs.Totals.{total_only}
 use Rattle.lanes.specs.Lanes.{pack, lane}
 use Rattle.lanes.proofs.Laws.{lane_after, pack_same, lane_pack, pack_more, pack_lanes, xor_pack}
-use Rattle.mender.specs.Rows.{woven, SumsIn, UnitRows, PivotRow, factor, RowsCleared, RowsHold, RowsFrom, FirstRow, Coefficients}
+use Rattle.mender.specs.Rows.{woven, SumsIn, UnitRows, Pivot, NoPivot, factor, RowsCleared, RowsHold, RowsFrom, First, NoRow, Coefficients}
 use Rattle.mender.specs.Inside.{mixed, at}
 use Rattle.mender.proofs.Fitting.{Least, row_least}
 use Rattle.mender.proofs.rows.Windows.{Units, Stepped, past, row_none, column_none, none_divided, mixed_lt, mixed_none, spanned_units, spanned_step, spanned_skip}
@@ -127,15 +127,18 @@ module _ (s : List ℕ) (e n : ℕ) (x : List ℕ) (a : RowsHold s e n x) where
       (λ (h : i < 6). get_or-eq_default (get_or a.rows i []) 0 (omega (arith, a.spanned.wide i h))) (le_or_lt 6 i)
 
   -- no row has to go
-  rows-skip : n < 5 → PivotRow x n 6 → RowsHold s e (suc n) x
+  rows-skip : n < 5 → NoPivot x n → RowsHold s e (suc n) x
   rows-skip h p =
       record {
         rows = a.rows;
-        spanned = spanned_skip s e n a.rows a.spanned (λ i l. sym (word-window i n l h) ∙ p.before i l);
+        spanned = spanned_skip s e n a.rows a.spanned (λ i l. sym (word-window i n l h) ∙ p.none i l);
         word = a.word;
       }
 
-  module _ (p : ℕ) (r : List ℕ) (h : n < 5) (hp : p < 6) (b : PivotRow x n p) (c : RowsCleared x n p r) where
+  module _ (p : ℕ) (r : List ℕ) (h : n < 5) (b : Pivot x n p) (c : RowsCleared x n p r) where
+    hp : p < 6
+    hp = b.small
+
     m : List (List ℕ)
     m = a.rows
 
@@ -178,7 +181,7 @@ module _ (s : List ℕ) (e n : ℕ) (x : List ℕ) (a : RowsHold s e n x) where
         record {
           long = matrix_long entry;
           wide = matrix_wide entry;
-          pivot = subst (λ (t : ℕ). 0 < t) (word-window p n hp h) (b.here hp);
+          pivot = subst (λ (t : ℕ). 0 < t) (word-window p n hp h) b.here;
           lowest = lowest;
           row = new-at;
         }
@@ -207,7 +210,7 @@ module _ (s : List ℕ) (e n : ℕ) (x : List ℕ) (a : RowsHold s e n x) where
 
     f-one : f p ≡ 1
     unfolding f m
-    f-one = Laws.inverse_right (mixed (at m p) s n) (subst (λ (t : ℕ). 0 < t) (word-window p n hp h) (b.here hp)) (mixed_lt (at m p) s n)
+    f-one = Laws.inverse_right (mixed (at m p) s n) (subst (λ (t : ℕ). 0 < t) (word-window p n hp h) b.here) (mixed_lt (at m p) s n)
 
     word-here : get_or r p 0 ≡ pack 11 (woven s (at new p))
     word-here =
@@ -249,21 +252,20 @@ module _ (s : List ℕ) (e n : ℕ) (x : List ℕ) (a : RowsHold s e n x) where
               (λ (k : i < p). word-before i k) (le_or_lt p i);
         }
 
-pub from_step : (q e n p : ℕ) (x r o : List ℕ) → n < 5 → p < 6 → RowsFrom q e n x → PivotRow x n p → RowsCleared x n p r → o ≡ r → RowsFrom q e (n + 1) o
-from_step q e n p x r o h hp a b c w =
+pub from_step : (q e n p : ℕ) (x r o : List ℕ) → n < 5 → RowsFrom q e n x → Pivot x n p → RowsCleared x n p r → o ≡ r → RowsFrom q e (n + 1) o
+from_step q e n p x r o h a b c w =
     record {
       hold = λ s g.
           subst (λ (l : List ℕ). RowsHold s e (n + 1) l) (sym w)
-          (subst (λ (k : ℕ). RowsHold s e k r) (sym (add-one n)) (rows_step s e n x (a.hold s g) p r h hp b c));
+          (subst (λ (k : ℕ). RowsHold s e k r) (sym (add-one n)) (rows_step s e n x (a.hold s g) p r h b c));
     }
 
-pub from_skip : (q e n p : ℕ) (x o : List ℕ) → n < 5 → 6 ≤ p → RowsFrom q e n x → PivotRow x n p → o ≡ x → RowsFrom q e (n + 1) o
-from_skip q e n p x o h hp a b w =
-    let same : p ≡ 6 = let l = b.small in omega arith in
+pub from_skip : (q e n : ℕ) (x o : List ℕ) → n < 5 → RowsFrom q e n x → NoPivot x n → o ≡ x → RowsFrom q e (n + 1) o
+from_skip q e n x o h a b w =
     record {
       hold = λ s g.
           subst (λ (l : List ℕ). RowsHold s e (n + 1) l) (sym w)
-          (subst (λ (k : ℕ). RowsHold s e k x) (sym (add-one n)) (rows-skip s e n x (a.hold s g) h (subst (PivotRow x n) same b)));
+          (subst (λ (k : ℕ). RowsHold s e k x) (sym (add-one n)) (rows-skip s e n x (a.hold s g) h b));
     }
 
 pub from_all : (q e n t : ℕ) (x : List ℕ) → n ≤ t → t ≤ n → RowsFrom q e n x → RowsFrom q e t x
@@ -282,18 +284,19 @@ module _ (s : List ℕ) (e n : ℕ) (x : List ℕ) (a : RowsHold s e n x) where
       (le_or_lt 6 k)
 
   -- no row
-  pub rows_none : FirstRow x 6 → (i k : ℕ) → i < 6 → at a.rows i k ≡ 0
-  rows_none f i k h = word_none i h (f.before i h) k
+  pub rows_none : NoRow x → (i k : ℕ) → i < 6 → at a.rows i k ≡ 0
+  rows_none f i k h = word_none i h (f.none i h) k
 
   -- or the first row is the least polynomial
-  pub rows_first : (r : ℕ) (p : List ℕ) → r < 6 → FirstRow x r → Coefficients (get_or x r 0) p → Least s e n r p
-  rows_first r p h f c =
+  pub rows_first : (r : ℕ) (p : List ℕ) → First x r → Coefficients (get_or x r 0) p → Least s e n r p
+  rows_first r p f c =
+      let h : r < 6 = f.small in
       subst (Least s e n r) (sym same)
       (row_least s e n a.rows r a.spanned h
-      (⊎_elim (λ z. absurd (f.here h (a.word r h ∙ pack_none 11 (woven s (at a.rows r)) (λ t l. woven_none s (at a.rows r) z t)))) (λ o. o) (a.spanned.own r))
+      (⊎_elim (λ z. absurd (f.here (a.word r h ∙ pack_none 11 (woven s (at a.rows r)) (λ t l. woven_none s (at a.rows r) z t)))) (λ o. o) (a.spanned.own r))
       (λ i k l. word_none i (omega arith) (f.before i l) k))
     where
       same : p ≡ get_or a.rows r []
       same =
-          ext_get_or 0 p (get_or a.rows r []) (c.wide ∙ sym (a.spanned.wide r h))
-          (λ k l. c.entry k (omega (arith, c.wide)) ∙ word-coef s e n x a r k h (omega (arith, c.wide)))
+          ext_get_or 0 p (get_or a.rows r []) (c.wide ∙ sym (a.spanned.wide r f.small))
+          (λ k l. c.entry k (omega (arith, c.wide)) ∙ word-coef s e n x a r k f.small (omega (arith, c.wide)))

@@ -1,6 +1,8 @@
 -- What the code of packed rows does, a turn of each loop at a time, over plain variables.
 use mathlib.Core.Path.{◌≡◌, refl, sym, ap, ap₂, ◌∙◌, subst}
 use mathlib.Core.List.{List, [], ◌∷◌}
+use Rattle.std.specs.Prelude.{Option, Some, None, MatchOption}
+use Rattle.std.specs.List.{AllWithin, HoldsAt}
 use Prim.Native.Nat.{ℕ, zero, suc, ◌+◌, ◌*◌, ◌/◌, ◌%◌, ◌^◌, ◌<◌, ◌≤◌}
 use native.Mathlib.Nat.{le_of_eq, div-div-eq-div-mul, div-one, pow-suc, pow-le-pow_right, zero-add}
 use native.Mathlib.Numerals.{add-one}
@@ -61,19 +63,19 @@ unit_rows_none sums =
     record { long = refl; after = sym (div-one sums); next = refl; units = record { row = λ i l. absurd (omega arith); none = λ i l. zero_get 6 i } }
 
 -- one fits, and so does a row
-one_fits : (sums : ℕ) (x : List ℕ) (q one i e : ℕ) → e ≤ 5 → i ≤ e → UnitRowsTo sums x q one i → one ≤ 18014398509481984
+one_fits : (sums : ℕ) (x : List ℕ) (q one i e : ℕ) → e ≤ 5 → i < e + 1 → UnitRowsTo sums x q one i → one ≤ 18014398509481984
 one_fits sums x q one i e h l a =
     let c : 64 ^ i ≤ 64 ^ 5 = pow-le-pow_right {n = 64} (omega arith) {i = i} {j = 5} (omega arith) in
     let d = a.next in
     omega arith
 
-pub one_mul : (sums : ℕ) (x : List ℕ) (q one i e : ℕ) → e ≤ 5 → i ≤ e → UnitRowsTo sums x q one i → one * 64 < 18446744073709551616
+pub one_mul : (sums : ℕ) (x : List ℕ) (q one i e : ℕ) → e ≤ 5 → i < e + 1 → UnitRowsTo sums x q one i → one * 64 < 18446744073709551616
 one_mul sums x q one i e h l a = omega (arith, one_fits sums x q one i e h l a)
 
-pub one_add : (sums : ℕ) (x : List ℕ) (q one i e : ℕ) → e ≤ 5 → i ≤ e → UnitRowsTo sums x q one i → q % 1073741824 + one * 64 < 18446744073709551616
+pub one_add : (sums : ℕ) (x : List ℕ) (q one i e : ℕ) → e ≤ 5 → i < e + 1 → UnitRowsTo sums x q one i → q % 1073741824 + one * 64 < 18446744073709551616
 one_add sums x q one i e h l a = omega (arith, one_fits sums x q one i e h l a)
 
-pub unit_rows_again : (sums : ℕ) (x : List ℕ) (q one i e : ℕ) → e ≤ 5 → i ≤ e → UnitRowsTo sums x q one i
+pub unit_rows_again : (sums : ℕ) (x : List ℕ) (q one i e : ℕ) → e ≤ 5 → i < e + 1 → UnitRowsTo sums x q one i
     → UnitRowsTo sums (set x i (q % 1073741824 + one * 64)) (q / 64) (one * 64) (i + 1)
 unit_rows_again sums x q one i e h l a =
     let v : ℕ = q % 1073741824 + one * 64 in
@@ -93,40 +95,28 @@ unit_rows_again sums x q one i e h l a =
       };
     }
 
-pub unit_rows_all : (sums : ℕ) (x : List ℕ) (q one i e : ℕ) → i ≤ suc e → e < i → UnitRowsTo sums x q one i → UnitRows sums (suc e) x
+pub unit_rows_all : (sums : ℕ) (x : List ℕ) (q one i e : ℕ) → i ≤ e + 1 → e + 1 ≤ i → UnitRowsTo sums x q one i → UnitRows sums (suc e) x
 unit_rows_all sums x q one i e h l a = subst (λ (n : ℕ). UnitRows sums n x) (same i e h l) a.units
   where
-    same : (i e : ℕ) → i ≤ suc e → e < i → i ≡ suc e
+    same : (i e : ℕ) → i ≤ e + 1 → e + 1 ≤ i → i ≡ suc e
     same i e h l = omega arith
 
 -- ---- pivot_row and first_row
 
-abbrev pub QuietRows : List ℕ → ℕ → ℕ → Type 0
-QuietRows x j i = (k : ℕ) → k < i → lane (get_or x k 0) j ≡ 0
+-- of the rows that `position` looked at, those before the one that it gives fail the test
+pub pivot_row_is : (x : List ℕ) (j : ℕ) (r : Option ℕ) → length x ≡ 6
+    → MatchOption r (AllWithin (λ v. lane v j ≡ 0) x 0 (length x))
+    (λ i. (i < length x) × HoldsAt (λ v. lane v j ≡ 0 → ⊥) x i × AllWithin (λ v. lane v j ≡ 0) x 0 i)
+    → PivotRow x j r
+pivot_row_is x j (Some r) h a =
+    record { small = omega arith; before = λ i l. a.2 i 0 (omega arith) l; here = pos_of_not_zero (lane (get_or x r 0) j) (a.1 0) }
+pivot_row_is x j None h a = record { none = λ i l. a i 0 (omega arith) (omega arith) }
 
-pub quiet_rows_more : (x : List ℕ) (j i v : ℕ) → v ≡ lane (get_or x i 0) j → v ≡ 0 → QuietRows x j i → QuietRows x j (i + 1)
-quiet_rows_more x j i v e z q = below_more (λ k. lane (get_or x k 0) j ≡ 0) i q (sym e ∙ z)
-
-pub pivot_row_here : (x : List ℕ) (j i v : ℕ) → i < 6 → v ≡ lane (get_or x i 0) j → (v ≡ 0 → ⊥) → QuietRows x j i → PivotRow x j i
-pivot_row_here x j i v h e d q = record { small = omega arith; before = q; here = λ l. pos_of_not_zero (lane (get_or x i 0) j) (λ z. d (e ∙ z)) }
-
-pub pivot_row_none : (x : List ℕ) (j i : ℕ) → i ≤ 6 → 6 ≤ i → QuietRows x j i → PivotRow x j 6
-pivot_row_none x j i h l q = record { small = omega arith; before = λ k b. q k (omega arith); here = λ b. absurd (omega arith) }
-
-pub pivot_row_lane : (x : List ℕ) (j r : ℕ) → r < 6 → PivotRow x j r → 0 < lane (get_or x r 0) j
-pivot_row_lane x j r h a = a.here h
-
-abbrev pub BareRows : List ℕ → ℕ → Type 0
-BareRows x i = (k : ℕ) → k < i → get_or x k 0 ≡ 0
-
-pub bare_rows_more : (x : List ℕ) (i : ℕ) → get_or x i 0 ≡ 0 → BareRows x i → BareRows x (i + 1)
-bare_rows_more x i z q = below_more (λ k. get_or x k 0 ≡ 0) i q z
-
-pub first_row_here : (x : List ℕ) (i : ℕ) → i < 6 → (get_or x i 0 ≡ 0 → ⊥) → BareRows x i → FirstRow x i
-first_row_here x i h d q = record { small = omega arith; before = q; here = λ l. d }
-
-pub first_row_none : (x : List ℕ) (i : ℕ) → i ≤ 6 → 6 ≤ i → BareRows x i → FirstRow x 6
-first_row_none x i h l q = record { small = omega arith; before = λ k b. q k (omega arith); here = λ b. absurd (omega arith) }
+pub first_row_is : (x : List ℕ) (r : Option ℕ) → length x ≡ 6
+    → MatchOption r (AllWithin (λ v. v ≡ 0) x 0 (length x)) (λ i. (i < length x) × HoldsAt (λ v. v ≡ 0 → ⊥) x i × AllWithin (λ v. v ≡ 0) x 0 i)
+    → FirstRow x r
+first_row_is x (Some r) h a = record { small = omega arith; before = λ i l. a.2 i 0 (omega arith) l; here = a.1 0 }
+first_row_is x None h a = record { none = λ i l. a i 0 (omega arith) (omega arith) }
 
 -- ---- coefficients
 
@@ -248,8 +238,8 @@ pivot_divides y j d p e = Laws.may_divide d (rw e (lane_lt y j)) (not_zero_of_po
 pub inverse_lane : (x j d v : ℕ) → d ≡ lane x j → v ≡ inverse d → v ≡ inverse (lane x j)
 inverse_lane x j d v e f = f ∙ ap inverse e
 
-pub part_fits : (u v f : ℕ) → f ≡ product u v → f / 8 < 8
-part_fits u v f e = let b : f < 64 = subst (λ (n : ℕ). n < 64) (sym e) (Laws.product_lt u v) in omega arith
+pub part_fits : (u v f n : ℕ) → f ≡ product u v → n ≡ f / 8 → n < 8
+part_fits u v f n e q = let b : f < 64 = subst (λ (n : ℕ). n < 64) (sym e) (Laws.product_lt u v) in omega arith
 
 -- the rows after row p and before row i are cleared
 pub record RowsClearedTo (x : List ℕ) (j p : ℕ) (r : List ℕ) (i : ℕ) : Type 0 where
@@ -261,11 +251,11 @@ pub record RowsClearedTo (x : List ℕ) (j p : ℕ) (r : List ℕ) (i : ℕ) : T
 pub rows_cleared_none : (x : List ℕ) (j p : ℕ) → length x ≡ 6 → RowsClearedTo x j p x (p + 1)
 rows_cleared_none x j p w = record { long = w; before = λ k l. refl; done = λ k l b. absurd (omega arith); rest = λ k l. refl }
 
-pub rows_cleared_again : (x : List ℕ) (j p : ℕ) (r low high : List ℕ) (i d u f : ℕ) → p < i → i < 6 → d ≡ inverse (lane (get_or x p 0) j) → u ≡ lane (get_or r i 0) j
-    → f ≡ product d u → Tables (get_or x p 0) low high → RowsClearedTo x j p r i
-    → RowsClearedTo x j p (set r i (bit_xor (bit_xor (get_or r i 0) (get_or low (f % 8) 0)) (get_or high (f / 8) 0))) (i + 1)
-rows_cleared_again x j p r low high i d u f hp h ed eu ef t a =
-    let v : ℕ = bit_xor (bit_xor (get_or r i 0) (get_or low (f % 8) 0)) (get_or high (f / 8) 0) in
+pub rows_cleared_again : (x : List ℕ) (j p : ℕ) (r low high : List ℕ) (i d u f m n : ℕ) → p < i → i < 6 → d ≡ inverse (lane (get_or x p 0) j) → u ≡ lane (get_or r i 0) j
+    → f ≡ product d u → m ≡ f % 8 → n ≡ f / 8 → Tables (get_or x p 0) low high → RowsClearedTo x j p r i
+    → RowsClearedTo x j p (set r i (bit_xor (bit_xor (get_or r i 0) (get_or low m 0)) (get_or high n 0))) (i + 1)
+rows_cleared_again x j p r low high i d u f m n hp h ed eu ef em en t a =
+    let v : ℕ = bit_xor (bit_xor (get_or r i 0) (get_or low m 0)) (get_or high n 0) in
     let was : get_or r i 0 ≡ get_or x i 0 = a.rest i (omega arith) in
     let small : f < 64 = subst (λ (n : ℕ). n < 64) (sym ef) (Laws.product_lt d u) in
     let same : f ≡ factor x j p i = ef ∙ Laws.product_comm d u ∙ ap₂ product (eu ∙ ap (λ (w : ℕ). lane w j) was) ed in
@@ -275,7 +265,8 @@ rows_cleared_again x j p r low high i d u f hp h ed eu ef t a =
       done = λ k l b.
           below_more (λ k. p < k → get_or (set r i v) k 0 ≡ bit_xor (get_or x k 0) (pack 10 (λ l. product (lane (get_or x p 0) l) (factor x j p k)))) i
           (λ k b g. get_or-set_other r i k v 0 (λ q. omega arith) ∙ a.done k g b)
-          (λ g. get_or-set_same r i v 0 (omega (arith, a.long)) ∙ t.added (get_or r i 0) f small
+          (λ g. get_or-set_same r i v 0 (omega (arith, a.long))
+          ∙ ap₂ (λ (y z : ℕ). bit_xor (bit_xor (get_or r i 0) (get_or low y 0)) (get_or high z 0)) em en ∙ t.added (get_or r i 0) f small
           ∙ ap₂ (λ (y z : ℕ). bit_xor y (pack 10 (λ l. product (lane (get_or x p 0) l) z))) was same)
           k b l;
       rest = λ k l. get_or-set_other r i k v 0 (λ q. omega arith) ∙ a.rest k (omega arith);

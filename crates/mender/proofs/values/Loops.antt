@@ -51,9 +51,10 @@ place_fits c a e = omega (arith, place_below c a e)
 pub places_fit : (roots l x at i c : ℕ) → PlacesTo roots l x at i → c ≡ power α (at % 64) → x / 64 + c * 16777216 < 18446744073709551616
 places_fit roots l x at i c a e = let b = a.below in omega (arith, place_below c at e)
 
-pub places_again : (roots l x at i c t next : ℕ) → i < 5 → PlacesTo roots l x at i → c ≡ power α (at % 64) → t ≡ min (at + 1) 63 → FirstFrom roots (t % 64) next
+pub places_again : (roots l x at i v c t next : ℕ) → i < 5 → PlacesTo roots l x at i → v ≡ power α (at % 64) → c ≡ v → t ≡ min (at + 1) 63 → FirstFrom roots (t % 64) next
     → PlacesTo roots l (x / 64 + c * 16777216) next (i + 1)
-places_again roots l x at i c t next h a e et n =
+places_again roots l x at i v c t next h a ev ec et n =
+    let e : c ≡ power α (at % 64) = ec ∙ ev in
     let small : c < 64 = place_below c at e in
     record {
       most = omega arith;
@@ -105,8 +106,9 @@ inverse_fits c u e = omega (arith, inverse_below c u e)
 pub inverses_fit : (d r q i c : ℕ) → InversesTo d r q i → c ≡ inverse_or_none (q % 64) → r / 64 + c * 16777216 < 18446744073709551616
 inverses_fit d r q i c a e = let b = a.below in omega (arith, inverse_below c (q % 64) e)
 
-pub inverses_again : (d r q i c : ℕ) → i < 5 → InversesTo d r q i → c ≡ inverse_or_none (q % 64) → InversesTo d (r / 64 + c * 16777216) (q / 64) (i + 1)
-inverses_again d r q i c h a e =
+pub inverses_again : (d r q i v c : ℕ) → i < 5 → InversesTo d r q i → v ≡ inverse_or_none (q % 64) → c ≡ v → InversesTo d (r / 64 + c * 16777216) (q / 64) (i + 1)
+inverses_again d r q i v c h a ev ec =
+    let e : c ≡ inverse_or_none (q % 64) = ec ∙ ev in
     let small : c < 64 = inverse_below c (q % 64) e in
     record {
       most = omega arith;

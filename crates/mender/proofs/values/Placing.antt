@@ -26,7 +26,7 @@ use Rattle.sums.specs.Held.{eleven}
 use Rattle.sums.proofs.Holding.{eleven_first}
 use Rattle.code.proofs.Distances.{weight_le}
 use Rattle.code.proofs.Changes.{ends_none, ends_one, ends_more}
-use Rattle.mender.specs.declared.values.Pattern.{Pattern}
+use Rattle.mender.specs.declared.Mended.{Mended}
 use Rattle.mender.specs.declared.values.Ahead.{Ahead}
 use Rattle.mender.specs.Inside.{value_of}
 use Rattle.mender.specs.Rows.{Coefficients}
@@ -243,8 +243,9 @@ module _ (row : ℕ) (p : List ℕ) (h : Sums) (n f : ℕ) (c : Coefficients row
   unfolding value_of
   no_value r l o h z = simp (ne_eqb (poly_at p (power α l)) 0 (clear_other p r (coefficients_small row p c) o l h z))
 
-  pub values_placed : (r : ℕ) (y : Pattern) → RootsOf p r → Placed r f n y → Patterned p (eleven h) y
-  values_placed r y o a =
+  pub values_placed : (r m : ℕ) (y : Mended) → RootsOf p r → m ≡ n → Placed r f m y → Patterned p (eleven h) y
+  values_placed r m y o em b =
+      let a : Placed r f n y = subst (λ (k : ℕ). Placed r f k y) em b in
       record {
         valued = record {
           long = a.long;

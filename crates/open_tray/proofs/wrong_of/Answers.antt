@@ -1,16 +1,12 @@
--- `open_tray::wrong_of` meets its contract: the sums passed are 0.
-use borrow.Author.Rules.{rules}
-use Rattle.open_tray.proofs.Sums.{zero_none, zero_again, zero_not, zero_all}
+-- `open_tray::wrong_of` meets its contract: what `any` tells of the sums is whether one of them is not 0.
+use Rattle.std.proofs.Common.{rules, tests, ◌∙◌, not}
+use lib.Dec.{eqb}
+use Rattle.std.proofs.lemmas.Iterator.{YieldsList-from_slice}
+use Rattle.std.proofs.lemmas.Iterator.Search.{any_from_yields_List}
+use Rattle.open_tray.proofs.Sums.{some_wrong}
 use Rattle.open_tray.proofs.wrong_of.Goals as goal
 
-pub loop-k-init : goal.loop-k-init
-loop-k-init c = search (zero_none, rules)
-
-pub returns-then-sums-k-ne0 : goal.returns-then-sums-k-ne0
-returns-then-sums-k-ne0 c = search (zero_not, rules)
-
-pub loop-k-preserved : goal.loop-k-preserved
-loop-k-preserved c = search (zero_again, rules)
-
 pub returns : goal.returns
-returns c = search (zero_all, rules)
+returns c =
+    c.from.ensures
+    ∙ some_wrong _ _ (any_from_yields_List (λ x. not (eqb x 0)) _ _ _ c.any.ensures.ran (YieldsList-from_slice c.args.sums.now (cc)) (λ x b q k. search (rules, tests)))

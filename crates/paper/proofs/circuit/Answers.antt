@@ -1,14 +1,7 @@
--- `paper::circuit` meets its contract: the characters passed are added by Horner's rule.
-use borrow.Author.Rules.{rules}
-use Rattle.code.proofs.Loops.{value_none}
-use Rattle.paper.proofs.Loops.{circuit_again, circuit_all}
+-- `paper::circuit` meets its contract: it takes each character in, by Horner's rule.
+use Rattle.std.proofs.Common.{rules}
+use Rattle.paper.proofs.Loops.{circuit_is}
 use Rattle.paper.proofs.circuit.Goals as goal
 
-pub loop-a-init : goal.loop-a-init
-loop-a-init c = search (value_none, rules)
-
-pub loop-a-preserved : goal.loop-a-preserved
-loop-a-preserved c = search (circuit_again, rules)
-
 pub returns : goal.returns
-returns c = search (circuit_all, rules)
+returns c = search (circuit_is, rules)

@@ -1,10 +1,6 @@
 -- `paper::power_row` meets its contract: the powers passed stand in the row, before the sum.
-use Prim.Native.Nat.{◌-◌}
 use Rattle.paper.proofs.Loops.{PowerTo}
 use Rattle.paper.proofs.power_row.Given as goal
 
 abbrev pub invariant-loop-k : goal.invariant-loop-k
 invariant-loop-k l = PowerTo l.places l.sum l.n l.i l.row l.k
-
-abbrev pub decreases-loop-k : goal.decreases-loop-k
-decreases-loop-k l = l.n - l.k

@@ -3,4 +3,4 @@ use Rattle.planes.proofs.Loops.{spread_bit}
 use Rattle.planes.proofs.spread.Goals as goal
 
 pub returns : goal.returns
-returns c = spread_bit _
+returns c = rw c.from.ensures (spread_bit _)

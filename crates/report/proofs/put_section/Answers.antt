@@ -1,20 +1,16 @@
--- put_section puts the lines of a section. After i items, whatever lines complete the rest complete the section; the measure is the items left.
-use borrow.Author.Rules.{rules}
-use borrow.Author.Tests.{not-true, not-false}
-use Rattle.report.proofs.Loops.{section_missing, items_none, items_all, items_cut, items_more}
+-- put_section puts the lines of a section. After i items, whatever lines complete the rest complete the section.
+use Rattle.report.proofs.Loops.{section_missing, items_all, items_cut, items_more}
 use Rattle.report.proofs.put_section.Goals as goal
 
-pub returns-then-from-file : goal.returns-then-from-file
-returns-then-from-file c = search (section_missing, rules)
+pub returns-in_default-clause-cut : goal.returns-in_default-clause-cut
+returns-in_default-clause-cut c = section_missing _ _ _ _ _ c.in_default.ensures.cases
 
-pub loop-i-init : goal.loop-i-init
-loop-i-init c = search (items_none, rules)
-
-pub returns-then-not-part : goal.returns-then-not-part
-returns-then-not-part c = search (items_cut, not-true, rules)
+pub returns-in_default-first_item-clause-cut : goal.returns-in_default-first_item-clause-cut
+returns-in_default-first_item-clause-cut c =
+    items_cut _ _ _ _ _ _ _ _ _ _ c.loop-i.invariant _ c.in-Some.count.now c.in-Some.ensures.cases.0 c.from-count.ensures c.loop-i-test.true c.in_default-first_item.ensures
 
 pub loop-i-preserved : goal.loop-i-preserved
-loop-i-preserved c = search (items_more, not-false, rules)
+loop-i-preserved c = items_more _ _ _ _ _ _ _ _ _ _ c.loop-i.invariant c.loop-i-test.true _ _ c.in-Some-first_item.ensures _ _ c.put_item-next.ensures
 
-pub returns : goal.returns
-returns c = search (items_all, rules)
+pub returns-clause-whole : goal.returns-clause-whole
+returns-clause-whole c = items_all _ _ _ _ _ _ _ _ _ _ c.loop-i.invariant _ c.in-Some.count.now c.in-Some.ensures.cases.0 c.from-count.ensures c.loop-i-test.false

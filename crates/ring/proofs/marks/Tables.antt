@@ -19,14 +19,13 @@ use Rattle.sums.specs.declared.Sums.{Sums}
 use Rattle.sums.specs.Held.{eleven_at}
 use Rattle.sums.proofs.Holding.{eleven_long, eleven_get}
 use Rattle.code.proofs.Words.{listed_long, listed_get}
-use Rattle.ring.specs.declared.marks.AllMarks.{AllMarks}
 use Rattle.ring.specs.Inside.{MarkSums}
 use Rattle.ring.specs.Marks.{MarksIn, marks_of, MarksAtAll}
 use Rattle.ring.proofs.marks.Marks.{TurnedBack, next_sums}
 
 -- the eleven sums at a start
-abbrev pub eleven_of : AllMarks → ℕ → Sums
-eleven_of m k = record { first = get_or m.firsts k 0; last = get_or m.lasts k 0 }
+abbrev pub eleven_of : List (ℕ × ℕ) → ℕ → Sums
+eleven_of m k = record { first = (get_or m k (0, 0)).0; last = (get_or m k (0, 0)).1 }
 
 -- ---- the words
 
@@ -76,12 +75,12 @@ module _ (first : ℕ) (words : List ℕ) (t : T (turned_in words)) (apart : (l 
 
 -- ---- the marks at all starts
 
-unfoldable pub turned_all : AllMarks → Bool
+unfoldable pub turned_all : List (ℕ × ℕ) → Bool
 turned_all m =
     each 125
     (λ k. cond (eqb k 62) true (each 11 (λ i. eqb (eleven_at (eleven_of m (suc k)) i) (product (eleven_at (eleven_of m k) i) (get_or backs i 0)))))
 
-module _ (m : AllMarks) (t : T (turned_all m)) (begins : MarkSums 0 (marks_of m 0)) (returns : MarkSums 63 (marks_of m 63)) where
+module _ (m : List (ℕ × ℕ)) (t : T (turned_all m)) (begins : MarkSums 0 (marks_of m 0)) (returns : MarkSums 63 (marks_of m 63)) where
   turned-at : (k : ℕ) → k < 125 → (k ≡ 62 → ⊥) → TurnedBack (marks_of m k) (marks_of m (suc k))
   unfolding turned_all
   turned-at k h d =

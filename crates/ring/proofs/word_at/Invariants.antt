@@ -1,12 +1,8 @@
 -- `ring::word_at` meets its contract: the loop keeps that the first a characters are those of the word at the start.
 use mathlib.Core.Path.{◌≡◌}
-use Prim.Native.Nat.{◌<◌, ◌-◌}
 use lib.ListN.{length}
 use Rattle.ring.proofs.Loops.{PlacedTo}
 use Rattle.ring.proofs.word_at.Given as goal
 
 abbrev pub invariant-loop-a : goal.invariant-loop-a
-invariant-loop-a l = (length l.ring ≡ 63) × (l.start < 126) × PlacedTo l.ring l.start l.word l.a
-
-abbrev pub decreases-loop-a : goal.decreases-loop-a
-decreases-loop-a l = 63 - l.a
+invariant-loop-a l = (length l.ring ≡ 63) × PlacedTo l.ring l.start l.c-items l.a

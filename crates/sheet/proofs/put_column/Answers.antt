@@ -6,8 +6,8 @@ use Rattle.sheet.proofs.put_column.Goals as goal
 pub returns-then-s-ne-SHEET : goal.returns-then-s-ne-SHEET
 returns-then-s-ne-SHEET c = search (written_nowhere, rules)
 
-pub returns-then-a-ge-SIDE : goal.returns-then-a-ge-SIDE
-returns-then-a-ge-SIDE c = search (written_beyond, rules)
+pub returns-then-from-ge-SIDE : goal.returns-then-from-ge-SIDE
+returns-then-from-ge-SIDE c = search (written_beyond, rules)
 
 pub loop-i-init : goal.loop-i-init
 loop-i-init c = search (written_start, rules)

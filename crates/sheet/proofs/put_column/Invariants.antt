@@ -1,10 +1,6 @@
 -- `sheet::put_column` meets its contract: the entries passed are written, and no others.
-use Prim.Native.Nat.{◌-◌}
 use Rattle.sheet.proofs.Loops.{WrittenTo}
 use Rattle.sheet.proofs.put_column.Given as goal
 
 abbrev pub invariant-loop-i : goal.invariant-loop-i
-invariant-loop-i l = WrittenTo l.column l.a l.initial.s l.s l.i
-
-abbrev pub decreases-loop-i : goal.decreases-loop-i
-decreases-loop-i l = 63 - l.i
+invariant-loop-i l = WrittenTo l.c-items l.a l.initial.s l.s l.i

@@ -7,7 +7,9 @@ pub loop-i-init : goal.loop-i-init
 loop-i-init c = search (lines_none, rules)
 
 pub loop-i-preserved : goal.loop-i-preserved
-loop-i-preserved c = search (lines_again, rules)
+loop-i-preserved c =
+    lines_again _ _ _ _ _ c.loop-i.invariant c.as_chunks.ensures.front_len _ _ _ c.as_chunks.ensures.front c.loop-i-test.true
+    c.information_of-known.ensures c.put_line.ensures
 
 pub returns : goal.returns
-returns c = search (lines_all, rules)
+returns c = lines_all _ _ _ _ _ c.loop-i.invariant c.as_chunks.ensures.front_len c.loop-i-test.false

@@ -1,16 +1,11 @@
--- `sheet_encoder::possible` meets its contract: the numbers passed are at most 4095.
-use borrow.Author.Rules.{rules}
-use Rattle.sheet_encoder.proofs.Loops.{possible_none, possible_again, possible_all, possible_not}
+-- `sheet_encoder::possible` meets its contract: a number over 4095 tells.
+use Rattle.std.proofs.Common.{leb, rules, tests}
+use Rattle.std.proofs.lemmas.Iterator.{YieldsList-from_slice}
+use Rattle.std.proofs.lemmas.Iterator.Search.{all_from_yields_List}
+use Rattle.sheet_encoder.proofs.Loops.{tells_possible}
 use Rattle.sheet_encoder.proofs.possible.Goals as goal
 
-pub loop-i-init : goal.loop-i-init
-loop-i-init c = search (possible_none, rules)
-
-pub returns-then-numbers-i-gt4095 : goal.returns-then-numbers-i-gt4095
-returns-then-numbers-i-gt4095 c = search (possible_not, rules)
-
-pub loop-i-preserved : goal.loop-i-preserved
-loop-i-preserved c = search (possible_again, rules)
-
 pub returns : goal.returns
-returns c = search (possible_all, rules)
+returns c =
+    tells_possible _ _
+    (all_from_yields_List (λ n. leb n 4095) _ _ _ c.all.ensures.ran (YieldsList-from_slice c.args.numbers.now (cc)) (λ n b q k. search (rules, tests)))

@@ -1,6 +1,6 @@
 -- `sheet_reader::run_rounds` meets its contract: each turn runs one round more, unless the sheet is proper or the round leaves it as it was.
 use borrow.Author.Rules.{rules}
-use Rattle.sheet_reader.proofs.Running.{run_start, run_proper, run_same, run_more, run_end}
+use Rattle.sheet_reader.proofs.Running.{same_told, other_told, run_start, run_proper, run_same, run_more, eight_proper, eight_improper}
 use Rattle.sheet_reader.proofs.run_rounds.Goals as goal
 
 pub loop-rounds-init : goal.loop-rounds-init
@@ -9,12 +9,18 @@ loop-rounds-init c = search (run_start, rules)
 pub returns-then-is_proper : goal.returns-then-is_proper
 returns-then-is_proper c = search (run_proper, rules)
 
-pub returns-then-same : goal.returns-then-same
-returns-then-same c = run_same _ _ _ c.loop-rounds.invariant _ (search rules) c.is_proper.ensures (search rules) _ _ c.lines_read-between.ensures
-    c.columns_read-next.ensures _ c.same.ensures c.if-same.true
+pub returns-then-eq : goal.returns-then-eq
+returns-then-eq c =
+    run_same _ c.loop-rounds.s _ c.loop-rounds.invariant _ c.loop-rounds-test.true c.is_proper.ensures c.if-is_proper.false c.words_read-between.result c.words_read-next.result c.words_read-between.ensures
+    c.words_read-next.ensures (same_told _ _ _ c.eq.ensures c.if-eq.true)
 
 pub loop-rounds-preserved : goal.loop-rounds-preserved
-loop-rounds-preserved c = search (run_more, rules)
+loop-rounds-preserved c =
+    run_more _ c.loop-rounds.s _ c.loop-rounds.invariant _ c.loop-rounds-test.true c.is_proper.ensures c.if-is_proper.false c.words_read-between.result c.words_read-next.result c.words_read-between.ensures
+    c.words_read-next.ensures (other_told _ _ _ c.eq.ensures c.if-eq.false)
+
+pub returns-then-is_proper-2 : goal.returns-then-is_proper-2
+returns-then-is_proper-2 c = search (eight_proper, rules)
 
 pub returns : goal.returns
-returns c = search (run_end, rules)
+returns c = search (eight_improper, rules)

@@ -1,10 +1,6 @@
 -- `sheet_reader::run_rounds` meets its contract: each turn runs one round more, unless the sheet is proper or the round leaves it as it was.
-use Prim.Native.Nat.{◌-◌}
 use Rattle.sheet_reader.proofs.Running.{RunTo}
 use Rattle.sheet_reader.proofs.run_rounds.Given as goal
 
 abbrev pub invariant-loop-rounds : goal.invariant-loop-rounds
-invariant-loop-rounds l = RunTo l.initial.s l.s l.rounds
-
-abbrev pub decreases-loop-rounds : goal.decreases-loop-rounds
-decreases-loop-rounds l = 8 - l.rounds
+invariant-loop-rounds l = RunTo l.initial.s.cells l.s.cells l.rounds

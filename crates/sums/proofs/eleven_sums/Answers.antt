@@ -4,4 +4,4 @@ use Rattle.sums.proofs.Packing.{sums_in_order}
 use Rattle.sums.proofs.eleven_sums.Goals as goal
 
 pub returns : goal.returns
-returns c = search (sums_in_order, rules)
+returns c = rw c.from.ensures (search (sums_in_order, rules))

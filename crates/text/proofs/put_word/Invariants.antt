@@ -1,11 +1,7 @@
 -- put_word puts the word: after i turns its first i bytes.
-use lib.ListN.{length}
-use Prim.Native.Nat.{◌-◌}
-use Rattle.text.proofs.Writing.{WordTo}
+use Rattle.std.proofs.Common.{take}
+use Rattle.text.specs.Writing.{Puts}
 use Rattle.text.proofs.put_word.Given as goal
 
-abbrev pub invariant-loop-i : goal.invariant-loop-i
-invariant-loop-i l = WordTo l.word l.fn.out l.out l.at l.next l.i
-
-abbrev pub decreases-loop-i : goal.decreases-loop-i
-decreases-loop-i l = length l.word - l.i
+abbrev pub invariant-loop-x : goal.invariant-loop-x
+invariant-loop-x l = Puts l.fn.out l.out l.at l.next (take l.x-index l.word)

@@ -4,6 +4,3 @@ use Rattle.mender.proofs.values.both_at.Given as goal
 
 abbrev pub invariant-loop-m : goal.invariant-loop-m
 invariant-loop-m l = BothTo l.f l.x l.twice l.r l.m
-
-abbrev pub decreases-loop-m : goal.decreases-loop-m
-decreases-loop-m l = l.m

@@ -7,6 +7,3 @@ use Rattle.mender.proofs.values.numerator.Given as goal
 
 abbrev pub invariant-loop-k : goal.invariant-loop-k
 invariant-loop-k l = (l.n ≤ 5) × (l.from ≡ l.sums / 2 ^ (6 * l.n)) × NumeratorTo l.q (lanes_of l.sums) l.n l.c l.k
-
-abbrev pub decreases-loop-k : goal.decreases-loop-k
-decreases-loop-k l = l.k

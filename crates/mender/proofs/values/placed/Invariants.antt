@@ -4,7 +4,7 @@ use Rattle.mender.proofs.values.Placing.{PlacedTo}
 use Rattle.mender.proofs.values.placed.Given as goal
 
 abbrev pub invariant-loop-l : goal.invariant-loop-l
-invariant-loop-l l = PlacedTo l.roots l.f l.n l.w l.count l.first l.last l.values l.left l.l
+invariant-loop-l l = PlacedTo l.roots l.f.sides l.f.windows l.w l.count l.first l.last l.values l.left l.l
 
 abbrev pub decreases-loop-l : goal.decreases-loop-l
 decreases-loop-l l = 63 - l.l

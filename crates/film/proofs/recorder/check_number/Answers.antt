@@ -1,5 +1,0 @@
--- `film::recorder::check_number` gives the number of the answer: the arm of a refusal has the number of its reason.
-use Rattle.film.proofs.recorder.check_number.Goals as goal
-
-pub returns-in-Refused : goal.returns-in-Refused
-returns-in-Refused c = simp (c.number.ensures, c.in-Refused.is)

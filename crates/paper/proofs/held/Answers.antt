@@ -1,7 +1,0 @@
--- `paper::held` meets its contract: 63 bytes are copied over 63.
-use borrow.Author.Rules.{rules}
-use Rattle.line.proofs.Reading.{copied}
-use Rattle.paper.proofs.held.Goals as goal
-
-pub returns : goal.returns
-returns c = search (copied, rules)

@@ -1,26 +1,42 @@
 // Runs the rows of the bench sheet in its order, and prints for each what was answered; the starred rows are proved besides, in proofs/Sheet.antt.
 #![tactic(auto)]
 
+ghost use Rattle.std.specs.Prelude.{◌++◌, OnOk, codes, decimal};
+ghost use Rattle.std.specs.Io.KnownBytes.{Appends};
+
 use refusal::Refusal;
 use std::io;
 use std::io::{BufWriter, Write};
 
+// Prints a space and a number.
+fn print_number<W: Write>(out: &mut W, n: u64) -> io::Result<()>
+    ensures { OnOk result (Appends (W.contents out.old) (W.contents out.new) (codes " " ++ decimal n)) }
+{
+    out.write_all(b" ")?;
+    streams::print_decimal(out, n)
+}
+
 // Prints each byte as a number, and ends the line.
 fn print_bytes(out: &mut impl Write, bytes: &[u8]) -> io::Result<()> {
     for x in bytes {
-        write!(out, " {x}")?;
+        print_number(out, u64::from(*x))?;
     }
     out.write_all(b"\n")
 }
 
 fn print_refusal(out: &mut impl Write, why: Refusal) -> io::Result<()> {
-    writeln!(out, " refused {}", refusal::number(why))
+    out.write_all(b" refused")?;
+    print_number(out, u64::from(refusal::number(why)))?;
+    out.write_all(b"\n")
 }
 
 fn print_element(out: &mut impl Write, title: &str, given: Result<u8, Refusal>) -> io::Result<()> {
     write!(out, "{title}")?;
     match given {
-        Ok(value) => writeln!(out, " {value}"),
+        Ok(value) => {
+            print_number(out, u64::from(value))?;
+            out.write_all(b"\n")
+        }
         Err(why) => print_refusal(out, why),
     }
 }
@@ -50,7 +66,9 @@ fn print_counted(
     write!(out, "{title}")?;
     match given {
         Ok(number) => {
-            write!(out, " {told} {number}:")?;
+            write!(out, " {told}")?;
+            print_number(out, u64::from(number))?;
+            out.write_all(b":")?;
             print_bytes(out, output)
         }
         Err(why) => print_refusal(out, why),
@@ -112,11 +130,11 @@ fn print_line(
     let mut output = [0u8; 63];
     match line::read_line(&word, radius, wanted, &mut output) {
         Ok(reading) => {
-            write!(
-                out,
-                " number {} distance {}:",
-                reading.number, reading.distance
-            )?;
+            out.write_all(b" number")?;
+            print_number(out, u64::from(reading.number))?;
+            out.write_all(b" distance")?;
+            print_number(out, u64::from(reading.distance))?;
+            out.write_all(b":")?;
             print_bytes(out, &output)
         }
         Err(why) => print_refusal(out, why),

@@ -10,7 +10,8 @@ fn print_element(out: &mut impl Write, element: FilmElement) -> io::Result<()> {
         out.write_all(b" ")?;
         print_byte(out, element.value)
     } else {
-        write!(out, " r{}", element.answer)
+        out.write_all(b" r")?;
+        streams::print_decimal(out, u64::from(element.answer))
     }
 }
 

@@ -17,7 +17,8 @@ pub fn print_byte<W: Write>(out: &mut W, x: u8) -> io::Result<()>
 pub fn print_number<W: Write>(out: &mut W, n: u16) -> io::Result<()>
     ensures { OnOk result (Appends (W.contents out.old) (W.contents out.new) (codes " " ++ decimal n)) }
 {
-    write!(out, " {n}")
+    out.write_all(b" ")?;
+    streams::print_decimal(out, u64::from(n))
 }
 
 // Prints the numbers of an answer.

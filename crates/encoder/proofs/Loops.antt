@@ -1,5 +1,6 @@
 -- What the encoder's code does, a turn and a way out at a time, over plain variables.
 use mathlib.Core.Path.{◌≡◌, refl, sym, ap, ap₂, ◌∙◌, subst}
+use mathlib.Core.Bool.{true, false}
 use mathlib.Core.List.{List, [], ◌∷◌, ◌++◌, append-nil, append_assoc}
 use Prim.Native.Nat.{ℕ, suc, ◌+◌, ◌/◌, ◌%◌, ◌<◌, ◌≤◌}
 use native.Mathlib.Nat.{add-zero, zero-add}
@@ -7,7 +8,7 @@ use native.Mathlib.Numerals.{add-one}
 use native.Mathlib.Omega.{arith}
 use borrow.Author.Count.{below_more}
 use borrow.Rule.Slice.PartMut.{put_mid}
-use lib.Bits.{bit_xor}
+use lib.Bits.{bit_xor, bit_or, or_add_and, or_comm, or_lt, and_le_r}
 use lib.Dec.{T, eqb, eqb→eq}
 use lib.ListN.{length, get_or, set, take, drop, replicate, length-append, length-drop, length-set, get_or-eq_default, drop_of_length-le}
 use lib.Seq.{ext_get_or, get_or-set_same, get_or-set_other, take_at, set_at}
@@ -19,7 +20,9 @@ use Rattle.lanes.specs.Lanes.{pack, lane}
 use Rattle.lanes.proofs.Laws.{lane_zero, lane_suc, lane_pack}
 use Rattle.code.specs.Word.{Characters}
 use Rattle.code.specs.Inside.{PowerSums}
-use Rattle.refusal.specs.Promise.{Test}
+use Rattle.code.proofs.Words.{characters_below}
+use Rattle.refusal.specs.Promise.{Test, Tells}
+use Rattle.refusal.proofs.Laws.{tells_yes, tells_no}
 use Rattle.refusal.proofs.Ladder.{Yes, Met, FailsAt, answer_at, refuses, succeeds, declines, replies}
 use Rattle.encoder.specs.declared.Register.{Register}
 use Rattle.encoder.specs.Division.{remainder}
@@ -116,6 +119,38 @@ divided_all held c feedback rest left i h d =
     let long : length (set left 10 t) ≡ 11 = length-set left 10 t ∙ d.room in
     ext_get_or 0 (set left 10 t) (stepped held c) (long ∙ sym (stepped_long held c d.long))
     (λ k b. divided_at held c feedback rest left 10 t (subst (DividedTo held c feedback rest left) j d) v k (omega arith))
+
+-- ---- whether what is held is in range
+
+-- all is below 64 exactly when the first i characters are
+pub record AllTo (held : List ℕ) (all i : ℕ) : Type 0 where
+  pub most : i ≤ 11
+  pub long : length held ≡ 11
+  pub tells : all < 64 → (k : ℕ) → k < i → get_or held k 0 < 64
+  pub told : ((k : ℕ) → k < i → get_or held k 0 < 64) → all < 64
+
+pub all_none : (held : List ℕ) → length held ≡ 11 → AllTo held 0 0
+all_none held h = record { most = omega arith; long = h; tells = λ l k b. absurd (omega arith); told = λ f. omega arith }
+
+or_left : (a b : ℕ) → bit_or a b < 64 → a < 64
+or_left a b h = omega (arith, or_add_and a b, and_le_r a b)
+
+pub all_again : (held : List ℕ) (all i : ℕ) → i < 11 → AllTo held all i → AllTo held (bit_or all (get_or held i 0)) (i + 1)
+all_again held all i h t =
+    record {
+      most = omega arith;
+      long = t.long;
+      tells = λ l.
+          below_more (λ (k : ℕ). get_or held k 0 < 64) i (t.tells (or_left all (get_or held i 0) l))
+          (or_left (get_or held i 0) all (subst (λ (n : ℕ). n < 64) (or_comm all (get_or held i 0)) l));
+      told = λ f. or_lt 6 all (get_or held i 0) (t.told (λ k b. f k (omega arith))) (f i (omega arith));
+    }
+
+pub all_over : (held : List ℕ) (all i : ℕ) → 11 ≤ i → AllTo held all i → 63 < all → Tells (Characters held) false
+all_over held all i h t l = tells_no (λ f. let b : all < 64 = t.told (λ k m. f k) in omega arith)
+
+pub all_low : (held : List ℕ) (all i : ℕ) → 11 ≤ i → AllTo held all i → all ≤ 63 → Tells (Characters held) true
+all_low held all i h t l = tells_yes (characters_below held 11 (omega (arith, t.long)) (λ k b. t.tells (omega arith) k (omega arith)))
 
 -- ---- the marks
 

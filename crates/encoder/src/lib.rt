@@ -2,6 +2,8 @@
 #![tactic(auto)]
 
 ghost use Rattle.std.specs.Prelude.{◌≡◌, get_or};
+ghost use Rattle.refusal.specs.Promise.{Tells};
+ghost use Rattle.code.specs.Word.{Characters};
 ghost use Rattle.encoder.specs.Register.{empty, stepped, checks_of};
 ghost use Rattle.encoder.specs.Promises.{encoding_numbers, Encodes, step_numbers, Steps, check_numbers, Checks};
 ghost use Rattle.encoder.specs.Interpolation.{ChecksWith, eleven};
@@ -40,6 +42,21 @@ fn divided(held: [u8; 11], c: u8) -> [u8; 11]
     }
     left[10] = feedback % 64;
     left
+}
+
+// Whether each character that is held is at most 63, by one test of them all. `eights::all_low` is slower here by half: it reads eight bytes at once, and
+// waits for those that a step or a caller has just written one by one.
+fn held_in_range(held: [u8; 11]) -> bool
+    ensures { Tells (Characters held) result }
+{
+    let mut all: u8 = 0;
+    for i in 0..11 {
+        all |= held[i];
+    }
+    if all > 63 {
+        return false;
+    }
+    true
 }
 
 // The eleven checks with these power sums, S_-5 first.
@@ -175,7 +192,7 @@ impl Register {
         if self.count >= 52 {
             return Err(Refusal::RegisterFull);
         }
-        if !all_low(&self.held) {
+        if !held_in_range(self.held) {
             return Err(Refusal::ValueOver);
         }
         if c > 63 {
@@ -196,7 +213,7 @@ impl Register {
         if self.count < 52 {
             return Err(Refusal::RegisterShort);
         }
-        if !all_low(&self.held) {
+        if !held_in_range(self.held) {
             return Err(Refusal::ValueOver);
         }
         Ok(marked(self.held))

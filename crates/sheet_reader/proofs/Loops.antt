@@ -1,12 +1,13 @@
 -- The turns of the loop over the lines or the columns of a sheet without its marks, and the round that the two make.
 use mathlib.Core.Path.{◌≡◌, sym, ◌∙◌, subst, refl}
-use mathlib.Core.Logic.{inl, inr}
+use mathlib.Core.Logic.{inl, inr, ⊎_elim}
 use mathlib.Core.List.{List}
 use Prim.Native.Nat.{ℕ, ◌+◌, ◌<◌, ◌≤◌}
 use native.Mathlib.Omega.{arith}
 use borrow.Author.Count.{below_more}
 use lib.ListN.{length}
 use Rattle.std.specs.Prelude.{Option, Some, None}
+use Rattle.numbers.proofs.Cases.{le_or_lt}
 use Rattle.code.specs.Word.{Characters, Clean, Line, added, marks}
 use Rattle.mender.specs.declared.Mended.{Mended}
 use Rattle.mender.specs.Mender.{NearestClean}
@@ -70,22 +71,18 @@ module _ (way : Way) (o s : List ℕ) (i : ℕ) (w : List ℕ) (p : ReadTo way o
         rest = λ j l g. put.elsewhere j g (λ e. omega arith) ∙ p.rest j (omega arith) g;
       }
 
-module _ (way : Way) (o s : List ℕ) (i : ℕ) (h : 63 ≤ i) (p : ReadTo way o s i) where
-  kept : (j : ℕ) → j < 63 → Kept Clean (word_of way j o) (word_of way j s)
-  kept j l = p.done j (omega arith)
+module _ (way : Way) (o s : List ℕ) (i : ℕ) (p : ReadTo way o s i) where
+  pub read_all : 63 ≤ i → WordsRead way o s
+  read_all h = record { words = λ j l. p.done j (omega arith) }
 
-  pub read_all : WordsRead way o s
-  read_all = record { words = kept }
-
-  -- what is read has characters, as the sheet had
+  -- what is read has characters, as the sheet had, and so has the rest
   pub read_held : Held o → Held s
-  read_held was =
-      record {
-        long = p.long;
-        low =
-            characters_of_words way s p.long
-            (λ j l. kept_clean_characters (word_of way j o) (word_of way j s) (word_characters way o j was.long was.low l) (kept j l));
-      }
+  read_held was = record { long = p.long; low = characters_of_words way s p.long word_low }
+    where
+      word_low : (j : ℕ) → j < 63 → Characters (word_of way j s)
+      word_low j l =
+          ⊎_elim (λ (after : i ≤ j). subst Characters (sym (p.rest j after l)) (word_characters way o j was.long was.low l))
+          (λ (read : j < i). kept_clean_characters (word_of way j o) (word_of way j s) (word_characters way o j was.long was.low l) (p.done j read)) (le_or_lt i j)
 
 -- ---- a round
 

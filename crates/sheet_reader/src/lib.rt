@@ -1,9 +1,9 @@
 // Reading a sheet: rounds of lines and columns, until one ends as it began or eight are done.
 #![tactic(auto)]
 
-ghost use Rattle.std.specs.Prelude.{◌≡◌, ◌<◌, ◌≤◌};
+ghost use Rattle.std.specs.Prelude.{◌≡◌, ◌<◌, ◌≤◌, length, Ok};
 ghost use Rattle.refusal.specs.Promise.{Tells};
-ghost use Rattle.code.specs.Word.{Clean};
+ghost use Rattle.code.specs.Word.{Characters, Clean};
 ghost use Rattle.mender.specs.Mender.{Word};
 ghost use Rattle.sheet.specs.Sheet.{Proper};
 ghost use Rattle.sheet.specs.Inside.{bare};
@@ -92,11 +92,22 @@ pub fn read_sheet(sheet: &[u8], output: &mut [u8]) -> Result<SheetReading, Refus
     if !eights::all_low(sheet) {
         return Err(Refusal::ValueOver);
     }
+    Ok(read_characters(sheet, output))
+}
+
+// Reads a sheet of 3,969 characters. It is a function of its own in the machine code too: a call that is refused takes no room for the sheets.
+#[inline(never)]
+fn read_characters(sheet: &[u8], output: &mut [u8]) -> SheetReading
+    requires sheet_len { length sheet.now ≡ 3969 }
+    requires output_len { length output.old ≡ 3969 }
+    requires characters { Characters sheet.now }
+    ensures { ReadsSheet sheet.now output.old (reading_numbers (Ok result)) output.new }
+{
     let left = run_rounds(Unmarked {
         cells: sheet::marks_added(sheet::taken(sheet)),
     });
     sheet::put(sheet::marks_added(left.sheet.cells), output);
-    Ok(left.reading)
+    left.reading
 }
 
 // Runs rounds, each line and then each column, until one ends as it began or eight are done. A proper sheet is left as it is by a round, which need not
@@ -111,8 +122,10 @@ fn run_rounds(mut s: Unmarked) -> Settled
                 reading: SheetReading::Proper { rounds: rounds + 1 },
             };
         }
-        let between = words_read(Way::Lines, s);
-        let next = words_read(Way::Columns, between);
+        let mut between = s;
+        read_words(Way::Lines, &mut between);
+        let mut next = between;
+        read_words(Way::Columns, &mut next);
         // The end of a round is held against its beginning: its columns may undo what its lines did.
         if next == s {
             return Settled {
@@ -134,18 +147,16 @@ fn run_rounds(mut s: Unmarked) -> Settled
     }
 }
 
-// Each line, or each column, becomes the clean word within five of it; where there is none it stays.
-fn words_read(way: Way, sheet: Unmarked) -> Unmarked
-    ensures { WordsRead way sheet.cells result.cells }
+// Each line, or each column, becomes the clean word within five of it; where there is none it stays. It is written where the sheet lies, which spares copies.
+fn read_words(way: Way, sheet: &mut Unmarked)
+    ensures { WordsRead way sheet.old.cells sheet.new.cells }
 {
-    let mut s = sheet.cells;
     for i in 0..SIDE as u8 {
-        let found = mender::clean_within(&way.word(i, &s), RADIUS);
+        let found = mender::clean_within(&way.word(i, &sheet.cells), RADIUS);
         if let Some(mended) = found {
-            way.put(mended.word, i, &mut s);
+            way.put(mended.word, i, &mut sheet.cells);
         }
     }
-    Unmarked { cells: s }
 }
 
 // Whether a sheet is proper, its marks put on: 52 lines and all columns tell, since these force the other lines.

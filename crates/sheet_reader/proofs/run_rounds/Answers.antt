@@ -11,13 +11,13 @@ returns-then-is_proper c = search (run_proper, rules)
 
 pub returns-then-eq : goal.returns-then-eq
 returns-then-eq c =
-    run_same _ c.loop-rounds.s _ c.loop-rounds.invariant _ c.loop-rounds-test.true c.is_proper.ensures c.if-is_proper.false c.words_read-between.result c.words_read-next.result c.words_read-between.ensures
-    c.words_read-next.ensures (same_told _ _ _ c.eq.ensures c.if-eq.true)
+    run_same _ c.loop-rounds.s _ c.loop-rounds.invariant _ c.loop-rounds-test.true c.is_proper.ensures c.if-is_proper.false c.read_words.new.sheet c.read_words-in-loop-rounds.new.sheet c.read_words.ensures
+    c.read_words-in-loop-rounds.ensures (same_told _ _ _ c.eq.ensures c.if-eq.true)
 
 pub loop-rounds-preserved : goal.loop-rounds-preserved
 loop-rounds-preserved c =
-    run_more _ c.loop-rounds.s _ c.loop-rounds.invariant _ c.loop-rounds-test.true c.is_proper.ensures c.if-is_proper.false c.words_read-between.result c.words_read-next.result c.words_read-between.ensures
-    c.words_read-next.ensures (other_told _ _ _ c.eq.ensures c.if-eq.false)
+    run_more _ c.loop-rounds.s _ c.loop-rounds.invariant _ c.loop-rounds-test.true c.is_proper.ensures c.if-is_proper.false c.read_words.new.sheet c.read_words-in-loop-rounds.new.sheet c.read_words.ensures
+    c.read_words-in-loop-rounds.ensures (other_told _ _ _ c.eq.ensures c.if-eq.false)
 
 pub returns-then-is_proper-2 : goal.returns-then-is_proper-2
 returns-then-is_proper-2 c = search (eight_proper, rules)

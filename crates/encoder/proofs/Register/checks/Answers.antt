@@ -11,8 +11,8 @@ returns-then-self-gt52 c = asking_refused _ 0 (denied (λ g. omega arith))
 pub returns-then-self-lt52 : goal.returns-then-self-lt52
 returns-then-self-lt52 c = asking_refused _ 1 (omega arith then denied (λ g. omega arith))
 
-pub returns-then-not-all_low : goal.returns-then-not-all_low
-returns-then-not-all_low c = asking_refused _ 2 (search verdicts)
+pub returns-then-not-held_in_range : goal.returns-then-not-held_in_range
+returns-then-not-held_in_range c = asking_refused _ 2 (search verdicts)
 
 pub returns : goal.returns
 returns c = checks_given _ _ (search verdicts) (search rules)

@@ -8,8 +8,8 @@ use Rattle.encoder.proofs.Register.take.Goals as goal
 pub returns-then-self-ge52 : goal.returns-then-self-ge52
 returns-then-self-ge52 c = step_refused _ _ 0 (denied (λ g. omega arith))
 
-pub returns-then-not-all_low : goal.returns-then-not-all_low
-returns-then-not-all_low c = step_refused _ _ 1 (search verdicts)
+pub returns-then-not-held_in_range : goal.returns-then-not-held_in_range
+returns-then-not-held_in_range c = step_refused _ _ 1 (search verdicts)
 
 pub returns-then-c-gt63 : goal.returns-then-c-gt63
 returns-then-c-gt63 c = step_refused _ _ 2 (search verdicts)
